@@ -1,0 +1,3 @@
+-- Printing: numbers as bytes. Parsing: bytes as numbers.
+pub mod Printing
+pub mod Parsing

@@ -1,0 +1,90 @@
+-- What a good kind and a valid value say in numbers.
+-- Assumes nothing.
+use Prim.Native.Nat.{ℕ, _-_, _^_, _≤_, _<_}
+use native.Mathlib.Omega.{arith}
+use mathlib.Core.Path.{_≡_, refl, sym, _∙_}
+use mathlib.Core.Bool.{Bool, true, false}
+use mathlib.Core.Logic.{_⊎_, inl, inr, ⊎-elim}
+use lib.ListN.{length}
+use lib.Dec.{ltb, leb, eqb}
+use borrow.Author.Tests.{ltb-true, leb-true, eqb-true, lt-ltb, le-ltb, le-leb}
+use Rattle.laws.specs.Tests.{both, either}
+use Rattle.laws.proofs.Tests.{both-left, both-right, both-true, choose-true, choose-false}
+use Rattle.fields.specs.Names.{listOf}
+use Rattle.fields.specs.Kinds.{goodSigned, good, validSigned, valid}
+use Rattle.fields.specs.declared.names.Names.{Names}
+use Rattle.fields.specs.declared.kinds.Kind.the-variants.{Fixed, Next, Count, Name}
+
+pub good-fixed : (w low high : ℕ) → good (Fixed w low high) ≡ true → (1 ≤ w) × ((w ≤ 10) × ((high < 10 ^ w) × (high < 2 ^ 32)))
+unfolding good
+good-fixed w low high t =
+    let u = both-right (leb 1 w) _ t in
+    let v = both-right (leb w 10) _ u in (
+      leb-true 1 w (both-left _ _ t),
+      (
+        leb-true w 10 (both-left _ _ u),
+        (ltb-true high (10 ^ w) (both-left _ _ v), ltb-true high (2 ^ 32) (both-right _ _ v)),
+      ),
+    )
+
+pub good-count : (low high : ℕ) → good (Count low high) ≡ true → high < 2 ^ 32
+unfolding good
+good-count low high t = ltb-true high (2 ^ 32) t
+
+pub good-signed : (below above : ℕ) → goodSigned below above ≡ true → (below ≤ 2 ^ 31) × (above < 2 ^ 31)
+unfolding goodSigned
+good-signed below above t = (leb-true below (2 ^ 31) (both-left _ _ t), ltb-true above (2 ^ 31) (both-right _ _ t))
+
+-- from low to high
+pub valid-between : (low high v : ℕ) → both (leb low v) (leb v high) ≡ true → (low ≤ v) × (v ≤ high)
+valid-between low high v t = (leb-true low v (both-left _ _ t), leb-true v high (both-right _ _ t))
+
+pub between-valid : (low high v : ℕ) → low ≤ v → v ≤ high → both (leb low v) (leb v high) ≡ true
+between-valid low high v l h = both-true (le-leb low v l) (le-leb v high h)
+
+either-cases : (a b : Bool) → either a b ≡ true → (a ≡ true) ⊎ (b ≡ true)
+unfolding either
+either-cases true b t = inl refl
+either-cases false b t = inr t
+
+either-right : (a b : Bool) → b ≡ true → either a b ≡ true
+unfolding either
+either-right true b t = refl
+either-right false b t = t
+
+pub next-zero : valid Next 0 ≡ true
+unfolding valid either
+next-zero = refl
+
+pub next-valid : (v : ℕ) → 100 ≤ v → v ≤ 230 → valid Next v ≡ true
+unfolding valid
+next-valid v l h = either-right (eqb v 0) _ (between-valid 100 230 v l h)
+
+pub valid-next : (v : ℕ) → valid Next v ≡ true → (v ≡ 0) ⊎ ((100 ≤ v) × (v ≤ 230))
+unfolding valid
+valid-next v t = ⊎-elim (λ u. inl (eqb-true v 0 u)) (λ u. inr (valid-between 100 230 v u)) (either-cases _ _ t)
+
+pub valid-signed :
+    (below above v : ℕ) → validSigned below above v ≡ true →
+    (v < 2 ^ 32) × ((v < 2 ^ 31 → v ≤ above) × (2 ^ 31 ≤ v → 2 ^ 32 - v ≤ below))
+unfolding validSigned
+valid-signed below above v t =
+    let u = both-right (ltb v (2 ^ 32)) _ t in (
+      ltb-true v (2 ^ 32) (both-left _ _ t),
+      (
+        (λ h. leb-true v above (sym (choose-true _ _ _ (lt-ltb v (2 ^ 31) h)) ∙ u)),
+        (λ h. leb-true (2 ^ 32 - v) below (sym (choose-false _ _ _ (le-ltb v (2 ^ 31) h)) ∙ u)),
+      ),
+    )
+
+pub signed-above : (below above v : ℕ) → v < 2 ^ 31 → v ≤ above → validSigned below above v ≡ true
+unfolding validSigned
+signed-above below above v h l = both-true (lt-ltb v (2 ^ 32) (omega arith)) (choose-true _ _ _ (lt-ltb v (2 ^ 31) h) ∙ le-leb v above l)
+
+pub signed-below : (below above v : ℕ) → v < 2 ^ 32 → 2 ^ 31 ≤ v → 2 ^ 32 - v ≤ below → validSigned below above v ≡ true
+unfolding validSigned
+signed-below below above v h g l = both-true (lt-ltb v (2 ^ 32) h) (choose-false _ _ _ (le-ltb v (2 ^ 31) g) ∙ le-leb (2 ^ 32 - v) below l)
+
+pub valid-name : (names : Names) (v : ℕ) → valid (Name names) v ≡ true → v < length (listOf names)
+unfolding valid
+valid-name names v t = ltb-true v _ t

@@ -1,0 +1,77 @@
+-- How large steps times m and a shift are, and which shifts are steps.
+-- Assumes nothing.
+use Prim.Native.Nat.{ℕ, zero, suc, _*_, _≤_}
+use native.Mathlib.Nat.{mul-le-mul-left}
+use native.Mathlib.Omega.{arith}
+use mathlib.Core.Path.{_≡_, refl}
+use mathlib.Core.Bool.{Bool, true, false}
+use lib.Dec.{lit<, lit≤}
+use lib.IntN.{ℤ, pos, negsuc, negℤ, natAbs, _-ℤ_}
+use lib.Signed.{ltZ, natAbs-le}
+use mir.Syntax.{w32, w64}
+use mir.Val.{Fits, SFits}
+use mir.Facts.{sfits-toZ}
+use borrow.Author.Tests.{ltb-false}
+use Rattle.laws.specs.Tests.{choose, either}
+use Rattle.laws.proofs.Tests.{either-left, either-right}
+use Rattle.units.specs.declared.Steps.{Steps}
+use Rattle.units.specs.declared.position.Position.{Position}
+use Rattle.units.specs.Position.{numberOf}
+use Rattle.units.specs.Shift.{Within, multiplierOf, scaledOf, limit, isBeyondOf}
+use Rattle.units.proofs.Integers.{natAbs-neg, natAbs-mul, natAbs-sub, sfits-natAbs}
+
+natAbs-multiplier : (x4 : Bool) → natAbs (multiplierOf x4) ≤ 4
+unfolding multiplierOf choose
+natAbs-multiplier true = lit≤ tt
+natAbs-multiplier false = lit≤ tt
+
+-- times m is at most times 4
+pub natAbs-scaled : (n : Steps) (x4 : Bool) → natAbs (scaledOf n x4) ≤ natAbs (n .0) * 4
+unfolding scaledOf
+natAbs-scaled n x4 = rw (natAbs-mul (n .0) (multiplierOf x4)) (mul-le-mul-left (natAbs (n .0)) (natAbs-multiplier x4))
+
+-- 01: "n is ±nnn within 8,388,607 each way". Such steps times m are steps again.
+pub within-scaled : (n : Steps) (x4 : Bool) → natAbs (n .0) ≤ 8388607 → Within (scaledOf n x4)
+within-scaled n x4 h = record { within = omega (arith, natAbs-scaled n x4) }
+
+-- nothing overflows: every i32 times m, and less every position, is an i64
+pub sfits-scaled : (n : Steps) (x4 : Bool) → SFits w32 (n .0) → SFits w64 (scaledOf n x4)
+sfits-scaled n x4 s =
+    sfits-natAbs w64 (scaledOf n x4) 8589934592 (omega (arith, natAbs-scaled n x4, natAbs-le (n .0) (s .sfits))) (lit< tt)
+
+pub sfits-shift : (n : Steps) (x4 : Bool) (p : Position) → SFits w32 (n .0) → Fits w32 (p .0) → SFits w64 (scaledOf n x4 -ℤ numberOf p)
+sfits-shift n x4 p s f =
+    sfits-natAbs w64 (scaledOf n x4 -ℤ numberOf p) 10737418240
+    (omega
+    (arith, natAbs-sub (scaledOf n x4) (numberOf p), natAbs-scaled n x4, natAbs-le (n .0) (s .sfits), natAbs-le (numberOf p) (sfits-toZ f .sfits)))
+    (lit< tt)
+
+-- a shift within the limit fits
+pub sfits-within : {z : ℤ} → Within z → SFits w32 z
+sfits-within {z} w = sfits-natAbs w32 z 33554428 (w .within) (lit< tt)
+
+-- the limit times m, and the same back
+within-limit : (x4 : Bool) → Within (scaledOf limit x4)
+within-limit x4 = within-scaled limit x4 (lit≤ tt)
+
+pub sfits-limit : (x4 : Bool) → SFits w64 (scaledOf limit x4)
+sfits-limit x4 = sfits-natAbs w64 (scaledOf limit x4) 33554428 (within-limit x4 .within) (lit< tt)
+
+pub sfits-limit-back : (x4 : Bool) → SFits w64 (negℤ (scaledOf limit x4))
+sfits-limit-back x4 =
+    sfits-natAbs w64 (negℤ (scaledOf limit x4)) 33554428 (rw (natAbs-neg (scaledOf limit x4)) (within-limit x4 .within)) (lit< tt)
+
+below-neg : (n k : ℕ) → ltZ (negsuc n) (negℤ (pos k)) ≡ false → suc n ≤ k
+below-neg n zero t = let e : _≡_ {A = ℕ} 0 1 = cc in absurd (omega arith)
+below-neg n (suc k) t = omega (arith, ltb-false k n t)
+
+-- neither above k nor below −k is within k
+natAbs-between : (z : ℤ) (k : ℕ) → either (ltZ (pos k) z) (ltZ z (negℤ (pos k))) ≡ false → natAbs z ≤ k
+natAbs-between (pos n) k t = ltb-false k n (either-left _ _ t)
+natAbs-between (negsuc n) k t = below-neg n k (either-right _ _ t)
+
+-- a shift that is not beyond is within
+pub within-not-beyond : (z : ℤ) (x4 : Bool) → isBeyondOf z x4 ≡ false → Within z
+unfolding isBeyondOf scaledOf multiplierOf choose
+within-not-beyond z true t = record { within = natAbs-between z 33554428 t }
+within-not-beyond z false t = record { within = omega (arith, natAbs-between z 8388607 t) }

@@ -1,0 +1,25 @@
+// The drive's numbers, each a type of its own, so that one is never taken for another: addresses,
+// steps, milliseconds and the position; and the arithmetic of runs on them.
+mod bits;
+mod position;
+mod remaining;
+mod shift;
+
+pub use position::Position;
+pub use shift::is_beyond;
+pub use shift::steps_of;
+
+// 01: "A drive address, a cell address, a count of steps and a count of milliseconds are never
+// taken for one another."
+
+// The address of a drive on its line.
+pub struct DriveAddress(pub u8);
+
+// The address of a cell of the program memory; as a next cell, 0 is the end.
+pub struct CellAddress(pub u8);
+
+// A count of steps, with the sign of its direction.
+pub struct Steps(pub i32);
+
+// A count of milliseconds.
+pub struct Milliseconds(pub u32);

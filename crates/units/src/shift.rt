@@ -1,0 +1,52 @@
+// The shift of an indexed run: how far it goes, in i64, where nothing overflows.
+ghost use mathlib.Core.Path.{_≡_};
+ghost use Rattle.units.specs.Shift.{Within, scaledOf, shiftOf, isBeyondOf};
+use crate::Position;
+use crate::Steps;
+
+impl Steps {
+    // The most steps that an instruction can name, either way.
+    pub const LIMIT: i32 = 8_388_607;
+
+    // n times m: m is 4 for x4, else 1.
+    pub fn scaled(self, x4: bool) -> i64
+        ensures { λ r. ⌜ r ≡ scaledOf self x4 ⌝ }
+    {
+        let n = self.0 as i64;
+        if x4 {
+            return n * 4;
+        }
+        n
+    }
+
+    // The shift of an indexed run of these steps: in absolute mode less the position.
+    pub fn shift(self, x4: bool, absolute: bool, position: Position) -> i64
+        ensures { λ r. ⌜ r ≡ shiftOf self x4 absolute position ⌝ }
+    {
+        let target = self.scaled(x4);
+        if absolute {
+            let p = position.number();
+            return target - p;
+        }
+        target
+    }
+}
+
+// Whether a shift is more than the limit times m, either way.
+pub fn is_beyond(shift: i64, x4: bool) -> bool
+    ensures { λ r. ⌜ r ≡ isBeyondOf shift x4 ⌝ }
+{
+    let limit = Steps(Steps::LIMIT).scaled(x4);
+    if limit < shift {
+        return true;
+    }
+    shift < -limit
+}
+
+// A shift within the limit of x4, as steps.
+pub fn steps_of(shift: i64) -> Steps
+    requires { ⌜ Within shift ⌝ }
+    ensures { λ r. ⌜ r .0 ≡ shift ⌝ }
+{
+    Steps(shift as i32)
+}

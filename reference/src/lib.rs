@@ -1,0 +1,23 @@
+//! The X-MIND K drive of document 01, written a second time, in plain Rust and from the documents
+//! alone. A comment that begins with 01 quotes the sentence of document 01 that the code states.
+//!
+//! From the record outward: `memory` (the record and its soundness), `instruction` and `frequency`
+//! (what a cell holds), `fields` (words and numbers as text), `program` (starting, milliseconds,
+//! taking a cell), `stops` (inputs words, the two stops), `board` (reports and orders), `wait`,
+//! `serial` (strings and answers), `reading` (the full reading). Around the drive: `console`,
+//! `replay` with its `raw` writes, and `generate` (random scripts).
+
+pub mod board;
+pub mod console;
+pub mod fields;
+pub mod frequency;
+pub mod generate;
+pub mod instruction;
+pub mod memory;
+pub mod program;
+pub mod raw;
+pub mod reading;
+pub mod replay;
+pub mod serial;
+pub mod stops;
+pub mod wait;

@@ -1,0 +1,59 @@
+//! `reference replay`, `reference generate SEED CALLS`, `reference console`.
+
+use reference::console::console;
+use reference::generate::script;
+use reference::replay::Replay;
+use std::io::{self, BufRead, BufWriter, Write};
+use std::process::ExitCode;
+
+fn main() -> ExitCode {
+    let arguments: Vec<String> =
+        std::env::args_os().skip(1).map(|word| word.to_string_lossy().into_owned()).collect();
+    let words: Vec<&str> = arguments.iter().map(String::as_str).collect();
+    match words.as_slice() {
+        ["replay"] => replay(),
+        ["generate", seed, calls] => generate(seed, calls),
+        ["console"] => {
+            console(io::stdin().lock(), io::stdout().lock());
+            ExitCode::SUCCESS
+        }
+        _ => usage(),
+    }
+}
+
+fn usage() -> ExitCode {
+    eprintln!("usage: reference replay | reference generate SEED CALLS | reference console");
+    ExitCode::from(2)
+}
+
+/// Script from standard input, observations to standard output, a complaint to standard error.
+fn replay() -> ExitCode {
+    let mut output = BufWriter::new(io::stdout().lock());
+    let result = replay_lines(io::stdin().lock(), &mut output);
+    let result = output.flush().map_err(|error| error.to_string()).and(result);
+    match result {
+        Ok(()) => ExitCode::SUCCESS,
+        Err(complaint) => {
+            eprintln!("{complaint}");
+            ExitCode::from(2)
+        }
+    }
+}
+
+fn replay_lines(input: impl BufRead, output: &mut impl Write) -> Result<(), String> {
+    let mut replay = Replay::default();
+    for line in input.split(b'\n') {
+        let line = line.map_err(|error| error.to_string())?;
+        let observations = replay.line(&String::from_utf8_lossy(&line))?;
+        output.write_all(observations.as_bytes()).map_err(|error| error.to_string())?;
+    }
+    Ok(())
+}
+
+fn generate(seed: &str, calls: &str) -> ExitCode {
+    let (Ok(seed), Ok(calls)) = (seed.parse(), calls.parse()) else { return usage() };
+    match io::stdout().write_all(script(seed, calls).as_bytes()) {
+        Ok(()) => ExitCode::SUCCESS,
+        Err(_) => ExitCode::from(2),
+    }
+}

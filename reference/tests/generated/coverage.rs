@@ -1,0 +1,466 @@
+//! The scripts reach every phase of every code by every event, every refusal of every operation,
+//! both answers to every command and request, and the rare happenings. A worse generator fails
+//! here.
+
+use crate::scripts::{walk, Call, Moment};
+use reference::instruction::Instruction;
+use reference::memory::{Drive, Phase, Remaining};
+use reference::raw;
+use reference::wait::End;
+use std::collections::BTreeMap;
+
+const CODES: [&str; 20] = [
+    "00", "01", "02", "03", "05", "11", "12", "21", "22", "31", "32", "57", "58", "60", "61", "62",
+    "63", "65", "69", "70",
+];
+
+/// 01: "Phases: waiting; delay (65); run (for 03 its fast part); braking (05 after its stop);
+/// slowing (02, 32, 03); emergency slowing (ramp runs); back (03 at LL)."
+const PHASES: [(&str, &[&str]); 7] = [
+    ("waiting", &CODES),
+    ("delay", &["65"]),
+    ("run", &["01", "02", "03", "05", "11", "12", "21", "22", "31", "32"]),
+    ("braking", &["05"]),
+    ("slowing", &["02", "32", "03"]),
+    ("emergency slowing", &["01", "31", "02", "32", "03", "05"]),
+    ("back", &["03"]),
+];
+
+type Counts = BTreeMap<String, usize>;
+
+fn count(counts: &mut Counts, key: impl ToString) {
+    *counts.entry(key.to_string()).or_default() += 1;
+}
+
+/// Every key has been counted so often, and no other key at all.
+fn all_counted(counts: &Counts, keys: &[String], least: usize) {
+    println!("{counts:#?}");
+    for key in keys {
+        let seen = counts.get(key).copied().unwrap_or(0);
+        assert!(seen >= least, "{key}: {seen} times");
+    }
+    for key in counts.keys() {
+        assert!(keys.contains(key), "{key} is not in the list");
+    }
+}
+
+/// The 42 pairs of phase and code that 01 allows.
+fn pairs() -> Vec<String> {
+    let rows = PHASES.iter();
+    rows.flat_map(|(phase, codes)| codes.iter().map(move |code| format!("{phase} {code}")))
+        .collect()
+}
+
+/// The pair that a busy drive stands in.
+fn pair(drive: &Drive) -> Option<String> {
+    let present = drive.cells.get(usize::from(drive.running.cell).checked_sub(100)?)?;
+    let phase = match drive.running.phase {
+        Phase::Waiting => "waiting",
+        Phase::Delay => "delay",
+        Phase::Run => "run",
+        Phase::Braking => "braking",
+        Phase::Slowing => "slowing",
+        Phase::EmergencySlowing => "emergency slowing",
+        Phase::Back => "back",
+    };
+    Some(format!("{phase} {}", code(present.instruction)))
+}
+
+fn code(instruction: Instruction) -> &'static str {
+    use Instruction::*;
+    match instruction {
+        Null => "00",
+        IndexedRamp { .. } => "01",
+        FreeRamp { .. } => "02",
+        ZeroSearch { .. } => "03",
+        DelayedStop { .. } => "05",
+        Indexed { .. } => "11",
+        Free { .. } => "12",
+        IndexedFine { .. } => "21",
+        FreeFine { .. } => "22",
+        IndexedRampFine { .. } => "31",
+        FreeRampFine { .. } => "32",
+        CamSetting { .. } => "57",
+        OutputSetting { .. } => "58",
+        CounterReset => "60",
+        OpeningLoop { .. } => "61",
+        ClosingLoop { .. } => "62",
+        ConditionalJump { .. } => "63",
+        TimeDelay { .. } => "65",
+        Recovery => "69",
+        CurrentSetting { .. } => "70",
+    }
+}
+
+#[test]
+fn every_phase_of_every_code_occurs() {
+    let mut counts = Counts::new();
+    walk(|moment| {
+        if moment.after.sound() && moment.seen.refusal.is_none() {
+            pair(moment.after).into_iter().for_each(|pair| count(&mut counts, pair));
+        }
+    });
+    assert_eq!(pairs().len(), 42);
+    all_counted(&counts, &pairs(), 300);
+}
+
+const FIELDS: &str =
+    "ad in rs es cm pos inp camset campos errcode errcell reccell recrest recloop \
+                      cell phase rest loop mark out";
+
+/// The field that a raw write names, and the code of a cell.
+fn raw_name(words: &[&str]) -> String {
+    if FIELDS.split_whitespace().any(|field| field == words[0]) {
+        return words[0].to_string();
+    }
+    format!("code {}", words[1])
+}
+
+#[test]
+fn every_raw_write_makes_sound_records_and_others() {
+    let mut counts = Counts::new();
+    walk(|moment| {
+        let Call::Raw(words) = moment.call else { return };
+        let words: Vec<&str> = words.iter().map(String::as_str).collect();
+        let written = raw::write(moment.before, &words).expect("a well-formed raw write");
+        let outcome = if written.is_some_and(|drive| drive.sound()) { "sound" } else { "not" };
+        count(&mut counts, format!("{} {outcome}", raw_name(&words)));
+    });
+    let codes = CODES.iter().map(|code| format!("code {}", code.parse::<u8>().unwrap()));
+    let names = FIELDS.split_whitespace().map(str::to_string).chain(codes);
+    let keys = names.flat_map(|name| [format!("{name} sound"), format!("{name} not")]);
+    counts.remove("code 4 not");
+    all_counted(&counts, &keys.collect::<Vec<_>>(), 10);
+}
+
+const EVENTS: [&str; 12] = [
+    "string ES",
+    "string EE",
+    "word ES",
+    "word EE",
+    "word PX",
+    "word without",
+    "word ST",
+    "M",
+    "P",
+    "A",
+    "H",
+    "W",
+];
+
+/// What a call is to a busy drive; a word can be several things at once.
+fn events(moment: &Moment) -> Vec<&'static str> {
+    let on = |word: u32, bit: u32| word >> bit & 1 == 1;
+    match moment.call {
+        Call::String { bytes, .. } if bytes.ends_with(b"ES\r") && bytes.len() == 5 => {
+            vec!["string ES"]
+        }
+        Call::String { bytes, .. } if bytes.ends_with(b"EE\r") && bytes.len() == 5 => {
+            vec!["string EE"]
+        }
+        Call::Inputs(word) => {
+            let bits = [(9, "word ES"), (10, "word EE"), (3, "word PX"), (8, "word ST")];
+            let mut kinds: Vec<_> =
+                bits.iter().filter(|(bit, _)| on(*word, *bit)).map(|(_, kind)| *kind).collect();
+            if !on(*word, 9) && !on(*word, 10) && !on(*word, 3) {
+                kinds.push("word without");
+            }
+            kinds
+        }
+        Call::Millisecond => vec!["M"],
+        Call::Step => vec!["P"],
+        Call::AtSpeed => vec!["A"],
+        Call::Halted => vec!["H"],
+        Call::Wait(1..=1_000_000) => vec!["W"],
+        _ => vec![],
+    }
+}
+
+#[test]
+fn every_event_meets_every_phase_of_every_code() {
+    let mut counts = Counts::new();
+    walk(|moment| {
+        let Some(pair) = pair(moment.before).filter(|_| moment.before.sound()) else { return };
+        let events = events(&moment);
+        events.iter().for_each(|event| count(&mut counts, format!("{pair} {event}")));
+    });
+    let keys: Vec<String> =
+        pairs().iter().flat_map(|pair| EVENTS.map(|event| format!("{pair} {event}"))).collect();
+    all_counted(&counts, &keys, 3);
+}
+
+// 01, "By operation": which refusals each operation has.
+#[test]
+fn every_refusal_of_every_operation_occurs() {
+    let mut counts = Counts::new();
+    walk(|moment| {
+        if let Some(refusal) = moment.seen.refusal {
+            count(&mut counts, format!("{} {refusal}", operation(moment.call)));
+        }
+    });
+    let refusals = [
+        "fresh 1",
+        "string 2",
+        "string 3",
+        "inputs 2",
+        "inputs 4",
+        "millisecond 2",
+        "order 2",
+        "step 2",
+        "step 5",
+        "at-speed 2",
+        "at-speed 6",
+        "halted 2",
+        "halted 6",
+        "rounding 7",
+        "wait 2",
+        "wait 8",
+        "reading 2",
+    ];
+    all_counted(&counts, &refusals.map(str::to_string), 20);
+}
+
+fn operation(call: &Call) -> &'static str {
+    match call {
+        Call::Fresh(_) => "fresh",
+        Call::String { .. } => "string",
+        Call::Inputs(_) => "inputs",
+        Call::Millisecond => "millisecond",
+        Call::Step => "step",
+        Call::AtSpeed => "at-speed",
+        Call::Halted => "halted",
+        Call::Wait(_) => "wait",
+        Call::Order => "order",
+        Call::Rounding(_) => "rounding",
+        Call::Reading => "reading",
+        Call::Raw(_) => "raw",
+    }
+}
+
+/// What came of a string: Y, N, an answer to a request, or silence.
+fn reply(moment: &Moment) -> &'static str {
+    match moment.seen.answer {
+        None => "silent",
+        Some(4) if moment.seen.buffer[2] == b'Y' => "Y",
+        Some(4) => "N",
+        Some(_) => "answered",
+    }
+}
+
+#[test]
+fn every_command_and_request_is_accepted_and_rejected() {
+    let commands = ["WN", "WS", "PS", "EE", "ES", "SA", "SO", "SC"];
+    let requests = ["QA", "QS", "QI", "QO", "QM", "QC", "QE", "QR"];
+    let mut counts = Counts::new();
+    walk(|moment| {
+        let Call::String { bytes, .. } = moment.call else { return };
+        let code = bytes
+            .get(2..4)
+            .map(|code| String::from_utf8_lossy(code).into_owned())
+            .unwrap_or_default();
+        let known = commands.contains(&code.as_str()) || requests.contains(&code.as_str());
+        if known && moment.seen.refusal.is_none() {
+            count(&mut counts, format!("{code} {}", reply(&moment)));
+        }
+    });
+    let accepted = commands
+        .map(|code| format!("{code} Y"))
+        .into_iter()
+        .chain(requests.map(|code| format!("{code} answered")));
+    let others = commands
+        .iter()
+        .chain(&requests)
+        .flat_map(|code| [format!("{code} N"), format!("{code} silent")]);
+    all_counted(&counts, &accepted.chain(others).collect::<Vec<_>>(), 30);
+}
+
+/// The first fields of a string to the drive's own address.
+fn fields(moment: &Moment) -> Vec<String> {
+    let Call::String { bytes, .. } = moment.call else { return vec![] };
+    let bytes = bytes.strip_suffix(b"\r").unwrap_or(bytes);
+    let text = String::from_utf8_lossy(bytes);
+    let own = format!("{:02}", moment.before.presets.address);
+    text.strip_prefix(&own)
+        .map(|text| text.split(',').map(str::to_string).collect())
+        .unwrap_or_default()
+}
+
+#[test]
+fn every_instruction_and_preset_is_accepted_and_rejected() {
+    let mut counts = Counts::new();
+    walk(|moment| {
+        let fields = fields(&moment);
+        let names: Vec<&str> = fields.iter().map(String::as_str).collect();
+        match names.as_slice() {
+            ["WN", _, code, ..] if CODES.contains(code) => {
+                count(&mut counts, format!("WN {code} {}", reply(&moment)))
+            }
+            ["WS", name, ..] if PRESETS.contains(name) => {
+                count(&mut counts, format!("WS {name} {}", reply(&moment)))
+            }
+            ["QS", name] if PRESETS.contains(name) => {
+                count(&mut counts, format!("QS {name} {}", reply(&moment)))
+            }
+            _ => {}
+        }
+    });
+    counts.retain(|key, _| !key.ends_with("silent"));
+    let cells = CODES.iter().flat_map(|code| [format!("WN {code} Y"), format!("WN {code} N")]);
+    let presets = PRESETS.iter().flat_map(|name| {
+        [format!("WS {name} Y"), format!("WS {name} N"), format!("QS {name} answered")]
+    });
+    all_counted(&counts, &cells.chain(presets).collect::<Vec<_>>(), 20);
+}
+
+const PRESETS: [&str; 5] = ["AD", "IN", "RS", "ES", "CM"];
+
+/// What happens seldom: its name, and how a moment is known to be one.
+type Happening = (&'static str, fn(&Moment) -> bool);
+
+const HAPPENINGS: [Happening; 27] = [
+    ("error 50", |m| new_error(m) == 50),
+    ("error 51", |m| new_error(m) == 51),
+    ("error 52", |m| new_error(m) == 52),
+    ("error 51 on resuming", |m| new_error(m) == 51 && taken(m, "69")),
+    ("error 52 on resuming", |m| new_error(m) == 52 && taken(m, "69")),
+    ("a start clears an error", |m| {
+        m.before.fault.code != 0 && m.after.fault.code == 0 && !m.after.idle()
+    }),
+    ("the longest absolute shift runs", |m| {
+        shift(m) == 33_554_428 || m.before.presets.absolute && shift(m) == 8_388_607
+    }),
+    ("a 69 resumes a run", |m| {
+        taken(m, "69") && m.after.running.phase == Phase::Run && record(m.before) != 0
+    }),
+    ("a 69 resumes a delay", |m| {
+        taken(m, "69") && m.after.running.phase == Phase::Delay && record(m.before) != 0
+    }),
+    ("a 69 takes a cell anew", |m| {
+        taken(m, "69") && m.before.suspended.cell != 0 && record(m.before) == 0
+    }),
+    ("a 69 without a record", |m| taken(m, "69") && m.before.suspended.cell == 0 && m.after.idle()),
+    ("a 69 interrupted", |m| {
+        stopped(m) && waits_at(m.before, "69") && m.before.suspended.cell != 0
+    }),
+    ("an interrupted run is recorded", |m| {
+        stopped(m) && matches!(m.after.suspended.remaining, Remaining::Steps(_))
+    }),
+    ("an interrupted delay is recorded", |m| {
+        stopped(m) && matches!(m.after.suspended.remaining, Remaining::Milliseconds(_))
+    }),
+    ("a loop count is recorded", |m| stopped(m) && m.after.suspended.loop_count != 0),
+    ("the rest falls to 0 while slowing", |m| {
+        *m.call == Call::Step && m.before.running.phase == Phase::EmergencySlowing && m.after.idle()
+    }),
+    ("a delayed stop passes on", |m| {
+        *m.call == Call::Step && m.before.running.phase == Phase::Braking && !m.after.moving()
+    }),
+    ("a zero search halts with PX off", |m| {
+        *m.call == Call::Halted
+            && m.before.running.phase == Phase::Slowing
+            && waits_at(m.before, "03")
+            && !m.after.moving()
+    }),
+    ("WN of changed content empties the record", |m| {
+        wrote(m) && m.before.suspended.cell != 0 && m.after.suspended.cell == 0
+    }),
+    ("WN of equal content leaves the record", |m| {
+        wrote(m) && m.before == m.after && written_cell(m) == m.before.suspended.cell.to_string()
+    }),
+    ("PS rejected while EE is on", |m| {
+        m.before.inputs.ee
+            && m.before.idle()
+            && fields(m).len() == 2
+            && fields(m)[0] == "PS"
+            && reply(m) == "N"
+    }),
+    ("ST starts while ES is on", |m| started(m) && m.after.inputs.es),
+    ("ES forbids a start by ST", |m| {
+        edge(m) && m.before.idle() && m.after.idle() && m.after.inputs.es && !m.after.inputs.ee
+    }),
+    ("the cam fires", |m| *m.call == Call::Step && m.before.cam.set && !m.after.cam.set),
+    ("the position passes an end", |m| {
+        *m.call == Call::Step && m.before.position.checked_sub(m.after.position).is_none()
+    }),
+    ("a wait of 1,000,000 is spent", |m| m.seen.wait == Some((End::Spent, 1_000_000))),
+    ("a string of over 64 bytes is rejected", |m| {
+        matches!(m.call, Call::String { bytes, .. } if bytes.len() > 64) && reply(m) == "N"
+    }),
+];
+
+fn new_error(m: &Moment) -> u8 {
+    let new = !m.before.idle()
+        && m.after.idle()
+        && m.before.fault.code == 0
+        && *m.call == Call::Millisecond;
+    if new {
+        m.after.fault.code
+    } else {
+        0
+    }
+}
+
+fn waits_at(drive: &Drive, wanted: &str) -> bool {
+    pair(drive).is_some_and(|pair| pair.ends_with(wanted))
+}
+
+/// A millisecond that takes a cell of this code.
+fn taken(m: &Moment, wanted: &str) -> bool {
+    *m.call == Call::Millisecond
+        && pair(m.before).is_some_and(|pair| pair == format!("waiting {wanted}"))
+}
+
+/// The shift of an indexed run that this millisecond begins.
+fn shift(m: &Moment) -> u32 {
+    match m.after.running.remaining {
+        Remaining::Steps(steps) if *m.call == Call::Millisecond && !m.before.moving() => {
+            steps.unsigned_abs()
+        }
+        _ => 0,
+    }
+}
+
+/// What is left in the record, as a number.
+fn record(drive: &Drive) -> i64 {
+    match drive.suspended.remaining {
+        Remaining::Nothing => 0,
+        Remaining::Steps(steps) => steps.into(),
+        Remaining::Milliseconds(milliseconds) => milliseconds.into(),
+    }
+}
+
+/// A string or a word or a halt that makes a busy drive idle.
+fn stopped(m: &Moment) -> bool {
+    !m.before.idle()
+        && m.after.idle()
+        && matches!(m.call, Call::String { .. } | Call::Inputs(_) | Call::Halted)
+}
+
+fn wrote(m: &Moment) -> bool {
+    reply(m) == "Y" && fields(m)[0] == "WN"
+}
+
+fn written_cell(m: &Moment) -> String {
+    fields(m)[1].clone()
+}
+
+fn edge(m: &Moment) -> bool {
+    matches!(m.call, Call::Inputs(_)) && !m.before.inputs.st && m.after.inputs.st
+}
+
+fn started(m: &Moment) -> bool {
+    edge(m) && m.before.idle() && !m.after.idle()
+}
+
+#[test]
+fn every_rare_happening_occurs() {
+    let mut counts = Counts::new();
+    walk(|moment| {
+        if !moment.before.sound() || matches!(moment.call, Call::Raw(_) | Call::Fresh(_)) {
+            return;
+        }
+        let happened = HAPPENINGS.iter().filter(|(_, known)| known(&moment));
+        happened.for_each(|(name, _)| count(&mut counts, name));
+    });
+    all_counted(&counts, &HAPPENINGS.map(|(name, _)| name.to_string()), 5);
+}
