@@ -68,7 +68,7 @@ const WHILE_IDLE: [(usize, Kind); 27] = [
     (1, Generator::board_order),
     (2, Generator::rounding),
     (4, Generator::reading),
-    (4, Generator::raw_write),
+    (5, Generator::raw_write),
     (1, Generator::fresh),
 ];
 

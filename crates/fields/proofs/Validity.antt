@@ -40,7 +40,7 @@ only-value : (f : ℕ → Bool) (n : ℕ) → f n ≡ true → Only f (Value n)
 unfolding Only
 only-value f n t v e = let m : n ≡ v = cc in ap f (sym m) ∙ t
 
--- of a choice, where the other branch is bad
+-- of a choice, by its branches
 only-choose : (f : ℕ → Bool) (b : Bool) (x y : Number) → (b ≡ true → Only f x) → (b ≡ false → Only f y) → Only f (choose b x y)
 only-choose f b x y p q = choose-by (Only f) b p q
 

@@ -32,7 +32,7 @@ static FIELDS: [(&str, &[i64]); 19] = [
 ];
 
 /// Cells as numbers, with code, parameters and next. About half of them are sound.
-const CELLS: [&str; 41] = [
+const CELLS: [&str; 44] = [
     "0 0",
     "0 99",
     "0 231",
@@ -58,11 +58,13 @@ const CELLS: [&str; 41] = [
     "31 240 42 -2 4 0",
     "31 29 10 1 1 0",
     "32 30 10 -1 1 100",
+    "32 30 43 1 1 0",
     "57 1 -55 0",
     "57 0 -55 0",
     "58 12 1 0",
     "58 13 1 0",
     "60 0",
+    "60 99",
     "61 3 0",
     "61 0 0",
     "62 100 0",
@@ -74,12 +76,16 @@ const CELLS: [&str; 41] = [
     "69 0",
     "69 100",
     "70 1 0",
+    "70 2 0",
 ];
 
 /// Error code and cell, the record's cell and rest or loop count, the cam's two: places in `FIELDS`.
 const PAIRS: [(usize, usize); 5] = [(9, 10), (11, 12), (12, 11), (11, 13), (7, 8)];
 
-/// Cells with the phases that their codes have.
+const NEAR_RESTS: [i64; 4] = [0, 1, -1, 3];
+const FAR_RESTS: [i64; 4] = [33_554_428, -33_554_428, 33_554_429, -33_554_429];
+
+/// Cells with the phases that their codes have, and some that they haven't.
 static UNDER_WAY: [(&str, &[i64]); 11] = [
     ("1 10 20 5 1 0", &[0, 2, 5]),
     ("2 10 20 1 4 101", &[2, 4, 5]),
@@ -101,7 +107,7 @@ impl Generator {
             0 => self.raw_output(),
             1 | 2 => self.raw_cell(),
             3 => self.raw_pair(),
-            4 | 5 if self.drive.idle() => self.raw_program(),
+            4..=7 if self.drive.idle() => self.raw_program(),
             _ => self.raw_field(),
         }
     }
@@ -120,7 +126,8 @@ impl Generator {
     fn raw_program(&mut self) {
         let (content, phases) = self.random.pick(&UNDER_WAY);
         let phase = if self.random.once_in(8) { 6 } else { self.random.pick(phases) };
-        let rest = self.random.pick(&[0, 0, 1, -1, 3, -3, 33_554_428, 33_554_429, -33_554_429]);
+        let rests = if self.random.once_in(6) { &FAR_RESTS } else { &NEAR_RESTS };
+        let rest = self.random.pick(rests);
         let (cell, mark) = (self.any_cell(), self.random.below(2));
         self.write_raw(&format!("c{cell} {content}"), "");
         self.write_raw(&format!("cell {cell}"), "");

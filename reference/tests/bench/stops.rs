@@ -53,6 +53,7 @@ fn st_is_judged_on_the_drive_before_the_word() {
          s 00QA = 00QA,+0",
     );
     list("i ST EE; s 00QA = 00QA,+0; i ST; s 00QA = 00QA,+0");
+    list("i EE; i ST; s 00QA = silent; W 9 = idle 1");
     list("i ST; M; s 00QA = 00QA,+0; i ST I0; s 00QA = 00QA,+0; i 0; i ST; s 00QA = silent");
 }
 

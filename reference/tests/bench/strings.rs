@@ -209,6 +209,7 @@ fn a_condition_is_one_of_sixteen_inputs_and_flags() {
 fn signs_stand_where_they_must_and_nowhere_else() {
     all_rejected("WN,100,65,+5,000 WN,100,05,10,20,+,+3,x1,000 WN,100,61,+5,000 WS,IN,+1 WS,AD,-0");
     all_rejected("WN,100,11,05,3,x1,000 WN,100,01,10,20,3,x1,000 WN,100,57,1,5,000 SC,1,5");
+    all_rejected("WN,100,11,05,33,x1,000 WN,100,31,100,20,33,x1,000 WN,100,57,1,55,000 SC,1,55");
     all_rejected(
         "WN,100,12,02,,x1,000 WN,100,12,02,+0,x1,000 WN,100,12,02,++,x1,000 SA,+-5 SA,--5",
     );

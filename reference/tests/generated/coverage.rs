@@ -101,7 +101,7 @@ fn every_phase_of_every_code_occurs() {
         }
     });
     assert_eq!(pairs().len(), 42);
-    all_counted(&counts, &pairs(), 300);
+    all_counted(&counts, &pairs(), 1_000);
 }
 
 const FIELDS: &str =
