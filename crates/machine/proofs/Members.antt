@@ -1,0 +1,51 @@
+-- Members of lists, and what a map or a test says of each.
+-- Assumes nothing.
+use Prim.Native.Nat.{ℕ, zero, suc, _+_, _≤_, _<_}
+use native.Mathlib.Nat.{not-suc-le-zero, le-of-suc-le-suc}
+use native.Mathlib.Decide.{ℕ-discrete}
+use native.Mathlib.Omega.{arith}
+use mathlib.Core.Path.{_≡_, refl, ap, sym, _∙_}
+use mathlib.Core.Bool.{Bool, true}
+use mathlib.Core.List.{List, [], _∷_, _++_, map, List·Memᴰ, List·Memᴰ·head, List·Memᴰ·tail, head-eq-of-cons-eq, tail-eq-of-cons-eq}
+use lib.ListN.{length, getD}
+use Rattle.laws.specs.Tables.{every}
+use Rattle.laws.proofs.Tests.{both-left, both-right, both-true}
+use Rattle.machine.specs.Reading.{places}
+
+-- two maps that agree on a list agree on each member
+pub map-at {ℓ κ} : {A : Type ℓ} {B : Type κ} (f g : A → B) {r : A} {l : List A} → List·Memᴰ r l → map f l ≡ map g l → f r ≡ g r
+map-at f g (List·Memᴰ·head e) p = ap f e ∙ head-eq-of-cons-eq p ∙ ap g (sym e)
+map-at f g (List·Memᴰ·tail m) p = map-at f g m (tail-eq-of-cons-eq p)
+
+-- a test that passes on a list passes on each member
+pub every-member {ℓ} : {A : Type ℓ} (f : A → Bool) {r : A} {l : List A} → List·Memᴰ r l → every f l ≡ true → f r ≡ true
+unfolding every
+every-member f (List·Memᴰ·head e) p = ap f e ∙ both-left _ _ p
+every-member f (List·Memᴰ·tail m) p = every-member f m (both-right _ _ p)
+
+-- a test that passes on each member passes on the list that a map makes of them
+pub every-map {ℓ κ} :
+    {A : Type ℓ} {B : Type κ} (f : B → Bool) (g : A → B) (l : List A) → ((r : A) → List·Memᴰ r l → f (g r) ≡ true) → every f (map g l) ≡ true
+unfolding every
+every-map f g [] h = refl
+every-map f g (x ∷ xs) h = both-true (h x (List·Memᴰ·head refl)) (every-map f g xs (λ r q. h r (List·Memᴰ·tail q)))
+
+pub every-append {ℓ} : {A : Type ℓ} (f : A → Bool) (a b : List A) → every f a ≡ true → every f b ≡ true → every f (a ++ b) ≡ true
+unfolding every
+every-append f [] b g h = h
+every-append f (x ∷ a) b g h = both-true (both-left _ _ g) (every-append f a b (both-right _ _ g) h)
+
+pub member-at {ℓ} : {A : Type ℓ} (l : List A) (k : ℕ) (d : A) → k < length l → List·Memᴰ (getD l k d) l
+member-at [] k d h = absurd (not-suc-le-zero h)
+member-at (x ∷ xs) zero d h = List·Memᴰ·head refl
+member-at (x ∷ xs) (suc k) d h = List·Memᴰ·tail (member-at xs k d (le-of-suc-le-suc h))
+
+-- n places from k on
+pub member-places : (n k i : ℕ) → k ≤ i → i < k + n → List·Memᴰ i (places n k)
+unfolding places
+member-places zero k i l h = absurd (omega arith)
+member-places (suc n) k i l h = pick (ℕ-discrete i k) (λ later. member-places n (suc k) i later (omega arith))
+  where
+    pick : Dec (i ≡ k) → (suc k ≤ i → List·Memᴰ i (places n (suc k))) → List·Memᴰ i (k ∷ places n (suc k))
+    pick (yes e) f = List·Memᴰ·head e
+    pick (no e) f = List·Memᴰ·tail (f (omega arith))

@@ -1,0 +1,92 @@
+-- At-speed and halted keep a state sound.
+-- Assumes nothing.
+use mathlib.Core.Path.{_≡_, refl, ap}
+use mathlib.Core.Bool.{Bool, true, false}
+use mathlib.Core.List.{List}
+use Rattle.laws.specs.Tests.{choose}
+use Rattle.laws.proofs.Tests.{choose-by}
+use Rattle.instruction.specs.declared.Cell.{Cell}
+use Rattle.instruction.specs.declared.run.Motion.{Motion}
+use Rattle.instruction.specs.declared.run.Motion.the-variants.{NoRun, IndexedRun, FreeRun, SearchRun, StoppedRun}
+use Rattle.instruction.specs.declared.run.Profile.{Profile}
+use Rattle.machine.specs.Soundness.{isNothing, isIndexed, hasRamp, backPhase, hasPhase, emergencyRest, busyRest, markSound, isWaiting}
+use Rattle.machine.specs.Milliseconds.{present}
+use Rattle.machine.specs.Reports.{runsOrBrakes, takesAtSpeed, atSpeed, haltedSlowing, haltedEmergency, haltedIn, halted}
+use Rattle.machine.specs.declared.Phase.{Phase}
+use Rattle.machine.specs.declared.Phase.the-variants.{Waiting, Delay, Run, Braking, Slowing, EmergencySlowing, BackOff}
+use Rattle.machine.specs.declared.State.{State}
+use Rattle.machine.proofs.Tests.{clash, either-left}
+use Rattle.machine.proofs.Cells.{Memory}
+use Rattle.machine.proofs.Rests.{nothing-suspended, steps-suspended}
+use Rattle.machine.proofs.Parts.{Parts, BusyIn, runOf, phase-busy}
+use Rattle.machine.proofs.Going.{phase-sound, goes-on, interrupted-sound, abandoned-sound}
+use Rattle.machine.proofs.Taking.{entered-sound}
+
+-- a mark is set where there is a ramp
+speed-mark : (p : Phase) (r : Profile) → choose (runsOrBrakes p) (hasRamp r) false ≡ true → markSound p r true ≡ true
+unfolding choose runsOrBrakes markSound
+speed-mark Waiting r t = clash t
+speed-mark Delay r t = clash t
+speed-mark Run r t = either-left _ _ t
+speed-mark Braking r t = refl
+speed-mark Slowing r t = refl
+speed-mark EmergencySlowing r t = refl
+speed-mark BackOff r t = clash t
+
+speed-busy : (p : Phase) (b : Bool) → choose (runsOrBrakes p) b false ≡ true → isWaiting p ≡ false
+unfolding choose runsOrBrakes isWaiting
+speed-busy Waiting b t = clash t
+speed-busy Delay b t = refl
+speed-busy Run b t = refl
+speed-busy Braking b t = refl
+speed-busy Slowing b t = refl
+speed-busy EmergencySlowing b t = refl
+speed-busy BackOff b t = refl
+
+-- 01: "At-speed sets the mark"
+pub speed-sound : {cells : List Cell} {s : State} → Parts cells s → takesAtSpeed cells s ≡ true → Parts cells (atSpeed s)
+unfolding takesAtSpeed atSpeed hasRamp
+speed-sound {s = s} g t =
+    let b = phase-busy g (speed-busy (s .running .phase) _ t) in
+    phase-sound g
+    (record { cell = b .cell; loops = b .loops; phase = b .phase; rest = b .rest; mark = speed-mark (s .running .phase) _ t }) refl
+
+module _ {cells : List Cell} (m : Memory cells) {s : State} (g : Parts cells s) where
+  -- 01: "02, 32 slow until halted, then pass on"; 03 then goes back
+  halted-slowing :
+      BusyIn cells s Slowing → (k : Motion) → runOf cells s .motion ≡ k →
+      Parts cells (haltedSlowing k s (present cells s .next))
+  unfolding haltedSlowing hasPhase backPhase busyRest isNothing markSound
+  halted-slowing b NoRun e = goes-on m g b
+  halted-slowing b IndexedRun e = goes-on m g b
+  halted-slowing b FreeRun e = goes-on m g b
+  halted-slowing b SearchRun e =
+      choose-by (Parts cells) _ (λ t. entered-sound g (b .cell) (b .loops) _ refl (ap backPhase e) refl refl) (λ t. goes-on m g b)
+  halted-slowing b StoppedRun e = goes-on m g b
+
+  -- 01: "the record is cell, rest .., loop count; after a 05 under way it is empty"
+  halted-emergency :
+      BusyIn cells s EmergencySlowing → (k : Motion) → runOf cells s .motion ≡ k →
+      emergencyRest k (runOf cells s) (s .running .remaining) ≡ true → Parts cells (haltedEmergency k s)
+  unfolding haltedEmergency emergencyRest isIndexed
+  halted-emergency b NoRun e r = interrupted-sound g (b .cell) (b .loops) (nothing-suspended _ _ r)
+  halted-emergency b IndexedRun e r = interrupted-sound g (b .cell) (b .loops) (steps-suspended _ _ r (ap isIndexed e))
+  halted-emergency b FreeRun e r = interrupted-sound g (b .cell) (b .loops) (nothing-suspended _ _ r)
+  halted-emergency b SearchRun e r = interrupted-sound g (b .cell) (b .loops) (nothing-suspended _ _ r)
+  halted-emergency b StoppedRun e r = abandoned-sound g
+
+  halted-in :
+      (p : Phase) → (isWaiting p ≡ false → BusyIn cells s p) →
+      Parts cells (haltedIn p (runOf cells s .motion) s (present cells s .next))
+  unfolding haltedIn isWaiting busyRest
+  halted-in Waiting b = g
+  halted-in Delay b = g
+  halted-in Run b = g
+  halted-in Braking b = g
+  halted-in Slowing b = halted-slowing (b refl) _ refl
+  halted-in EmergencySlowing b = halted-emergency (b refl) _ refl (b refl .rest)
+  halted-in BackOff b = g
+
+  pub halted-sound : Parts cells (halted cells s)
+  unfolding halted
+  halted-sound = halted-in (s .running .phase) (phase-busy g)

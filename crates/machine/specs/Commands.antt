@@ -1,0 +1,100 @@
+-- 01, "Strings": what a string asks for. The string stands here without its byte 13; its code is bytes 3 and 4, its fields follow.
+-- Assumes nothing.
+use Prim.Native.Nat.{ℕ, _+_, _*_, _^_, _-_}
+use Prim.Native.String.{String}
+use mathlib.Core.Bool.{Bool, true, false}
+use mathlib.Core.List.{List, [], _∷_}
+use lib.ListN.{length, getD, drop}
+use lib.Dec.{eqb}
+use Rattle.laws.specs.Tests.{choose}
+use Rattle.laws.specs.Text.{bytes}
+use Rattle.fields.specs.Names.{pairOf}
+use Rattle.fields.specs.Rows.{parseFields, parseAll}
+use Rattle.fields.specs.declared.kinds.Kind.{Kind}
+use Rattle.fields.specs.declared.kinds.Kind.the-variants.{Fixed, Count, Signed, Optional, Name}
+use Rattle.fields.specs.declared.names.Names.the-variants.{Settable, Outputs, Inputs, Presets, Resolutions}
+use Rattle.fields.specs.declared.rows.Parsed.{Parsed}
+use Rattle.instruction.specs.Formats.{cell, bit}
+use Rattle.instruction.specs.Numbers.{byteOf, isOne}
+use Rattle.instruction.specs.Texts.{sentCell}
+use Rattle.instruction.specs.declared.text.Sent.{Sent}
+use Rattle.instruction.specs.declared.text.Sent.the-variants.{Held}
+use Rattle.instruction.specs.declared.text.Sent.the-variants as sent
+use Rattle.units.specs.declared.CellAddress.{CellAddress}
+use Rattle.machine.specs.declared.commands.Command.{Command}
+use Rattle.machine.specs.declared.commands.Command.the-variants.{Store, SetPreset, Start, EmergencyStop, FreeRunStop, SetPosition, SetOutput, SetCam, AskPosition, AskPreset, AskInput, AskOutput, AskCell, AskCam, AskFault, AskSuspended, Wrong}
+
+-- 01: "(both numbers 32 bits signed)"
+abbrev pub anySigned : Kind
+anySigned = Signed (2 ^ 31) (2 ^ 31 - 1)
+
+-- the fields begin after the address and the code
+abbrev pub fieldsAt : ℕ
+fieldsAt = 4
+
+-- bytes 3 and 4
+unfoldable pub codeIn : List ℕ → ℕ
+codeIn s = pairOf (drop 2 s)
+
+unfoldable pub hasCode : String → List ℕ → Bool
+hasCode c s = eqb (codeIn s) (pairOf (bytes c))
+
+-- where all fields are right, what they say
+unfoldable pub onFields : Parsed → (List ℕ → Command) → Command
+onFields p f = choose (p .ok) (f (p .values)) Wrong
+
+unfoldable pub onAll : List Kind → List ℕ → (List ℕ → Command) → Command
+onAll ks s f = onFields (parseAll ks s fieldsAt) f
+
+abbrev pub addressOf : List ℕ → CellAddress
+addressOf vs = record { 0 = byteOf (getD vs 0 0) }
+
+unfoldable pub onSent : CellAddress → Sent → Command
+onSent a (Held c) = Store a c
+onSent a sent.Wrong = Wrong
+
+-- 01: "`AAWN,BBB,CC,..,DDD`"
+unfoldable pub storeIn : List ℕ → Parsed → Command
+storeIn s p = onFields p (λ vs. onSent (addressOf vs) (sentCell s (p .at)))
+
+-- 01: "(AD, IN, ES, CM as nnn)", with their ranges, and RS by name
+unfoldable pub presetKind : ℕ → Kind
+presetKind k =
+    choose (eqb k 0) (Count 0 47)
+    (choose (eqb k 1) (Count 0 3)
+    (choose (eqb k 2) (Name Resolutions) (Count 0 1)))
+
+unfoldable pub presetIn : List ℕ → Parsed → Command
+presetIn s p =
+    onFields p (λ ks.
+    onFields (parseAll (presetKind (getD ks 0 0) ∷ []) s (p .at)) (λ vs.
+    SetPreset (byteOf (getD ks 0 0)) (byteOf (getD vs 0 0))))
+
+-- 01: "`AASC,V,±nnn`, where `AASC,0` may end there"; an unset cam has position 0
+unfoldable pub camWith : Bool → ℕ → Command
+camWith set b = SetCam set (choose set b 0)
+
+unfoldable pub camIn : List ℕ → Command
+camIn s =
+    choose (parseAll (Fixed 1 0 0 ∷ []) s fieldsAt .ok) (SetCam false 0)
+    (onAll (bit ∷ anySigned ∷ []) s (λ vs. camWith (isOne (getD vs 0 0)) (getD vs 1 0)))
+
+-- 01: "Commands .." and "Requests .."
+unfoldable pub commandOf : List ℕ → Command
+commandOf s =
+    choose (hasCode "WN" s) (storeIn s (parseFields (cell ∷ []) s fieldsAt))
+    (choose (hasCode "WS" s) (presetIn s (parseFields (Name Presets ∷ []) s fieldsAt))
+    (choose (hasCode "PS" s) (onAll (cell ∷ []) s (λ vs. Start (addressOf vs)))
+    (choose (hasCode "EE" s) (onAll [] s (λ vs. EmergencyStop))
+    (choose (hasCode "ES" s) (onAll [] s (λ vs. FreeRunStop))
+    (choose (hasCode "SA" s) (onAll (Optional (2 ^ 31) (2 ^ 31 - 1) ∷ []) s (λ vs. SetPosition (getD vs 0 0)))
+    (choose (hasCode "SO" s) (onAll (Name Settable ∷ bit ∷ []) s (λ vs. SetOutput (byteOf (getD vs 0 0)) (isOne (getD vs 1 0))))
+    (choose (hasCode "SC" s) (camIn s)
+    (choose (hasCode "QA" s) (onAll [] s (λ vs. AskPosition))
+    (choose (hasCode "QS" s) (onAll (Name Presets ∷ []) s (λ vs. AskPreset (byteOf (getD vs 0 0))))
+    (choose (hasCode "QI" s) (onAll (Name Inputs ∷ []) s (λ vs. AskInput (byteOf (getD vs 0 0))))
+    (choose (hasCode "QO" s) (onAll (Name Outputs ∷ []) s (λ vs. AskOutput (byteOf (getD vs 0 0))))
+    (choose (hasCode "QM" s) (onAll (cell ∷ []) s (λ vs. AskCell (addressOf vs)))
+    (choose (hasCode "QC" s) (onAll [] s (λ vs. AskCam))
+    (choose (hasCode "QE" s) (onAll [] s (λ vs. AskFault))
+    (choose (hasCode "QR" s) (onAll [] s (λ vs. AskSuspended)) Wrong)))))))))))))))

@@ -1,0 +1,26 @@
+-- Document 01, section by section. A reader who believes these files knows what the drive does.
+-- What a drive holds:  Record (the fields, changed one at a time), Soundness.
+-- Strings:             Strings (which are heard), Commands (what a string asks for), Answers (the bytes that answer).
+-- Carrying out:        Starting, Taking (each code), Milliseconds, Stepping, Stopping (free run stop, emergency stop, PX), InputWords, Reports, Orders, Waiting.
+-- By operation:        Calls (each call with its refusals; lists of calls and what is seen of them), Operations (the answer buffer, fresh, board order).
+-- Demand 3:            Reading (the 165 requests), Demand3.
+-- Bench strings:       Cases (the cases marked *).
+pub mod Record
+pub mod Soundness
+pub mod Strings
+pub mod Commands
+pub mod Answers
+pub mod Starting
+pub mod Taking
+pub mod Milliseconds
+pub mod Stepping
+pub mod Stopping
+pub mod InputWords
+pub mod Reports
+pub mod Orders
+pub mod Waiting
+pub mod Calls
+pub mod Operations
+pub mod Reading
+pub mod Demand3
+pub mod Cases
