@@ -34,6 +34,8 @@ use Rattle.machine.proofs.Stepping.{step-sound}
 use Rattle.machine.proofs.Inputs.{word-sound}
 use Rattle.machine.proofs.Reports.{speed-sound, halted-sound}
 use Rattle.machine.proofs.Hearing.{told-sound}
+use Rattle.machine.proofs.Waits.{wait-least}
+use Rattle.machine.specs.Invariant.{Kept, Invariant}
 
 -- sound, with lists of their full lengths
 pub record Good (m : Machine) : Type 0 where
@@ -79,23 +81,23 @@ good-fresh a h =
 
 -- ---- calls
 
-abbrev Kept : Outcome → Type 0
-Kept o = Whole (o .machine)
+abbrev Handed : Outcome → Type 0
+Handed o = Whole (o .machine)
 
-act-sound : (c : Call) (m : Machine) → Whole m → Kept (act c m)
+act-sound : (c : Call) (m : Machine) → Whole m → Handed (act c m)
 unfolding act
-act-sound (SendString b buffer) m w = choose-by Kept (ltb (length buffer) 64) (λ t. w) (λ t. told-sound b m w)
-act-sound (SetInputs k) m w = choose-by Kept (ltb 2047 k) (λ t. w) (λ t. state-whole m w (word-sound (w .memory) k (w .parts)))
+act-sound (SendString b buffer) m w = choose-by Handed (ltb (length buffer) 64) (λ t. w) (λ t. told-sound b m w)
+act-sound (SetInputs k) m w = choose-by Handed (ltb 2047 k) (λ t. w) (λ t. state-whole m w (word-sound (w .memory) k (w .parts)))
 act-sound Millisecond m w = state-whole m w (millisecond-sound (w .memory) (w .parts))
-act-sound Step m w = choose-by Kept (moving (m .state)) (λ t. state-whole m w (step-sound (w .memory) (w .parts) t)) (λ t. w)
+act-sound Step m w = choose-by Handed (moving (m .state)) (λ t. state-whole m w (step-sound (w .memory) (w .parts) t)) (λ t. w)
 act-sound AtSpeed m w =
-    choose-by Kept (takesAtSpeed (m .cells) (m .state)) (λ t. state-whole m w (speed-sound (w .parts) t)) (λ t. w)
-act-sound Halted m w = choose-by Kept (takesHalted (m .state)) (λ t. state-whole m w (halted-sound (w .memory) (w .parts))) (λ t. w)
-act-sound (Wait n) m w = choose-by Kept _ (λ t. state-whole m w (wait-sound (w .memory) n (w .parts))) (λ t. w)
+    choose-by Handed (takesAtSpeed (m .cells) (m .state)) (λ t. state-whole m w (speed-sound (w .parts) t)) (λ t. w)
+act-sound Halted m w = choose-by Handed (takesHalted (m .state)) (λ t. state-whole m w (halted-sound (w .memory) (w .parts))) (λ t. w)
+act-sound (Wait n) m w = choose-by Handed _ (λ t. state-whole m w (wait-sound (w .memory) n (w .parts))) (λ t. w)
 
 pub good-next : (c : Call) (m : Machine) → Good m → Good (next c m)
 unfolding next apply
-good-next c m g = whole-good _ (choose-by Kept (sound m) (λ t. act-sound c m (good-whole m g)) (λ t. good-whole m g))
+good-next c m g = whole-good _ (choose-by Handed (sound m) (λ t. act-sound c m (good-whole m g)) (λ t. good-whole m g))
 
 pub good-after : (cs : List Call) (m : Machine) → Good m → Good (after cs m)
 unfolding after
@@ -161,3 +163,29 @@ idle-rests m g t =
     let loops = eqb-true (m .state .running .loops) 0 (third _ _ _ _ u) in
     let mark = not-true (m .state .running .«at_speed») (both-right _ _ (both-right _ _ (both-right _ _ u))) in
     λ i. record { cell = record { 0 = cell i }; phase = phase i; remaining = remaining i; loops = loops i; «at_speed» = mark i }
+
+-- ---- the statement
+
+good-kept : (m : Machine) → Good m → Kept m
+good-kept m g = record { cells = g .count; inputs = g .inputs; outputs = g .outputs; sound = good-sound m g }
+
+kept-good : (m : Machine) → Kept m → Good m
+unfolding sound
+kept-good m k =
+    record {
+      cells = both-left _ _ (k .sound);
+      count = k .cells;
+      inputs = k .inputs;
+      outputs = k .outputs;
+      state = both-right _ _ (k .sound);
+    }
+
+pub invariant : Invariant
+invariant =
+    record {
+      begins = λ a h. good-kept _ (good-fresh a h);
+      goes = λ c m k. good-kept _ (good-next c m (kept-good m k));
+      refuses = refused-same;
+      rests = λ m k. idle-rests m (kept-good m k);
+      waits = wait-least;
+    }

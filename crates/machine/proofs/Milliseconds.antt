@@ -14,7 +14,7 @@ use Rattle.instruction.specs.declared.run.Motion.the-variants.{NoRun, IndexedRu
 use Rattle.machine.specs.Record.{cellAt, idle}
 use Rattle.machine.specs.Soundness.{isCell, loopCountSound, isSteps, isTime, isIndexed, suspendedRest, suspendedSound, runPhase, hasPhase, busyRest, markSound}
 use Rattle.machine.specs.Milliseconds.{present, countDown, millisecondIn, millisecond}
-use Rattle.machine.specs.Taking.{resume, restored, recover, takeCell}
+use Rattle.machine.specs.Taking.{resume, restored, recover, recoverWith, takeCell}
 use Rattle.machine.specs.Waiting.{settled, waitFrom, wait}
 use Rattle.machine.specs.declared.Remaining.{Remaining}
 use Rattle.machine.specs.declared.Remaining.the-variants.{Nothing, Counted, Timed}
@@ -53,7 +53,7 @@ module _ {cells : List Cell} (m : Memory cells) {s : State} (g : Parts cells s) 
 
   -- 01: "69: empty record ends the program"
   recover-sound : Parts cells (recover cells s)
-  unfolding recover suspendedSound
+  unfolding recover recoverWith suspendedSound
   recover-sound =
       choose-by (Parts cells) (eqb (s .suspended .cell .0) 0) (λ t. stopped-sound g)
       (λ t. let u = sym (choose-false _ _ _ t) ∙ g .suspended in

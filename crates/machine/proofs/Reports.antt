@@ -11,7 +11,7 @@ use Rattle.instruction.specs.declared.run.Motion.the-variants.{NoRun, IndexedRu
 use Rattle.instruction.specs.declared.run.Profile.{Profile}
 use Rattle.machine.specs.Soundness.{isNothing, isIndexed, hasRamp, backPhase, hasPhase, emergencyRest, busyRest, markSound, isWaiting}
 use Rattle.machine.specs.Milliseconds.{present}
-use Rattle.machine.specs.Reports.{runsOrBrakes, takesAtSpeed, atSpeed, haltedSlowing, haltedEmergency, haltedIn, halted}
+use Rattle.machine.specs.Reports.{runsOrBrakes, takesAtSpeed, takesAtSpeedIn, atSpeed, haltedSlowing, haltedEmergency, haltedIn, halted}
 use Rattle.machine.specs.declared.Phase.{Phase}
 use Rattle.machine.specs.declared.Phase.the-variants.{Waiting, Delay, Run, Braking, Slowing, EmergencySlowing, BackOff}
 use Rattle.machine.specs.declared.State.{State}
@@ -45,7 +45,7 @@ speed-busy BackOff b t = refl
 
 -- 01: "At-speed sets the mark"
 pub speed-sound : {cells : List Cell} {s : State} → Parts cells s → takesAtSpeed cells s ≡ true → Parts cells (atSpeed s)
-unfolding takesAtSpeed atSpeed hasRamp
+unfolding takesAtSpeed takesAtSpeedIn atSpeed hasRamp
 speed-sound {s = s} g t =
     let b = phase-busy g (speed-busy (s .running .phase) _ t) in
     phase-sound g

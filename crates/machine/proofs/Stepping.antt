@@ -20,7 +20,7 @@ use Rattle.instruction.specs.declared.run.Profile.{Profile}
 use Rattle.machine.specs.Record.{moving, underWay}
 use Rattle.machine.specs.Soundness.{positionSound, camSound, isNothing, isSteps, isTime, isIndexed, emergencyRest, busyRest, isWaiting}
 use Rattle.machine.specs.Milliseconds.{present}
-use Rattle.machine.specs.Stepping.{runsBackward, camTested, moved, arrivedIn, counted, step}
+use Rattle.machine.specs.Stepping.{runsBackward, camTested, moved, movedBy, arrivedIn, counted, step}
 use Rattle.machine.specs.declared.Remaining.{Remaining}
 use Rattle.machine.specs.declared.Remaining.the-variants.{Nothing, Counted, Timed}
 use Rattle.machine.specs.declared.Phase.{Phase}
@@ -108,7 +108,7 @@ module _ {cells : List Cell} (m : Memory cells) {s : State} (g : Parts cells s) 
 
 -- 01: "A step moves the position by one"; "O3 is complemented and the cam unset (position 0)"
 pub step-sound : {cells : List Cell} → Memory cells → {s : State} → Parts cells s → moving s ≡ true → Parts cells (step cells s)
-unfolding step moved camTested moving present camSound positionSound both either
+unfolding step moved movedBy camTested moving present camSound positionSound both either
 step-sound {cells} m {s} g t =
     let b = phase-busy g (moving-busy (s .running .phase) t) in
     let q = position-sound g _ (stepped-sound (s .position) (not (runsBackward cells s))) in

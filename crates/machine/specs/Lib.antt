@@ -3,6 +3,7 @@
 -- Strings:             Strings (which are heard), Commands (what a string asks for), Answers (the bytes that answer).
 -- Carrying out:        Starting, Taking (each code), Milliseconds, Stepping, Stopping (free run stop, emergency stop, PX), InputWords, Reports, Orders, Waiting.
 -- By operation:        Calls (each call with its refusals; lists of calls and what is seen of them), Operations (the answer buffer, fresh, board order).
+-- What calls keep:     Invariant (sound drives, refusals, idle drives, waits, as one statement).
 -- Demand 3:            Reading (the 165 requests), Demand3.
 -- Bench strings:       Cases (the cases marked *).
 pub mod Record
@@ -21,6 +22,7 @@ pub mod Orders
 pub mod Waiting
 pub mod Calls
 pub mod Operations
+pub mod Invariant
 pub mod Reading
 pub mod Demand3
 pub mod Cases

@@ -10,6 +10,7 @@ use Rattle.instruction.specs.Runs.{profileOf}
 use Rattle.instruction.specs.declared.Cell.{Cell}
 use Rattle.instruction.specs.declared.run.Motion.{Motion}
 use Rattle.instruction.specs.declared.run.Motion.the-variants.{NoRun, IndexedRun, FreeRun, SearchRun, StoppedRun}
+use Rattle.instruction.specs.declared.run.Profile.{Profile}
 use Rattle.machine.specs.Record.{withRunning, inputAt, inPX}
 use Rattle.machine.specs.Starting.{advanced, entered}
 use Rattle.machine.specs.Milliseconds.{present}
@@ -30,9 +31,11 @@ runsOrBrakes EmergencySlowing = false
 runsOrBrakes BackOff = false
 
 -- 01: "6, at-speed outside the run or braking of a ramp run"
+unfoldable pub takesAtSpeedIn : Phase → Profile → Bool
+takesAtSpeedIn phase p = choose (runsOrBrakes phase) (not (eqb (p .ramp) 0)) false
+
 unfoldable pub takesAtSpeed : List Cell → State → Bool
-takesAtSpeed cells s =
-    choose (runsOrBrakes (s .running .phase)) (not (eqb (profileOf (present cells s .instruction) .ramp) 0)) false
+takesAtSpeed cells s = takesAtSpeedIn (s .running .phase) (profileOf (present cells s .instruction))
 
 -- 01: "At-speed sets the mark"
 unfoldable pub atSpeed : State → State

@@ -59,8 +59,11 @@ camTested s =
     (withCam (withOutput s outO3 (not (outputAt s outO3))) noCam) s
 
 -- 01: "A step moves the position by one"
+unfoldable pub movedBy : Bool → State → State
+movedBy backward s = camTested (withPosition s (steppedOf (s .position) (not backward)))
+
 unfoldable pub moved : List Cell → State → State
-moved cells s = camTested (withPosition s (steppedOf (s .position) (not (runsBackward cells s))))
+moved cells s = movedBy (runsBackward cells s) s
 
 -- 01: "if a rest reaches 0 meanwhile, the drive is idle with that step and the record empty"; else "Indexed rest falls to 0: next cell"
 unfoldable pub arrivedIn : Phase → State → CellAddress → State

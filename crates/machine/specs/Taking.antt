@@ -132,11 +132,13 @@ abbrev pub restored : State → State
 restored s =
     withRunning (withSuspended s nothingSuspended) (waitingAt (s .suspended .cell) (s .suspended .loops))
 
--- 01: "69: empty record ends the program; else .."
+-- 01: "69: empty record ends the program; else ..": c is the record's cell
+unfoldable pub recoverWith : State → Cell → State
+recoverWith s c =
+    choose (eqb (s .suspended .cell .0) 0) (stopped s) (resume (s .suspended .remaining) (restored s) c)
+
 unfoldable pub recover : List Cell → State → State
-recover cells s =
-    choose (eqb (s .suspended .cell .0) 0) (stopped s)
-    (resume (s .suspended .remaining) (restored s) (cellAt cells (s .suspended .cell)))
+recover cells s = recoverWith s (cellAt cells (s .suspended .cell))
 
 -- code 69
 unfoldable pub isRecovery : Instruction → Bool
