@@ -1,0 +1,120 @@
+-- `waiting::wait` meets its contract.
+-- Invariant: the milliseconds given so far are at most the budget, the drive is sound, and what is handed back in the end is what the rest of
+-- the wait makes of the present state. Measure: the milliseconds left of the budget.
+-- Assumes nothing.
+use Prim.Native.Nat.{_-_, _<_}
+use native.Mathlib.Omega.{arith}
+use mathlib.Core.Path.{_≡_, sym, _∙_}
+use lib.ListN.{length}
+use borrow.Author.Needs.{needs}
+use Rattle.execution.proofs.Waits.{place-cell, place-present, ran-idle, ran-moving, ran-spent, Waiting}
+use Rattle.execution.proofs.Waits.{waiting-start, waiting-step, present-place, held-place, place-sound}
+use Rattle.execution.proofs.waiting.wait.Statement.{statement}
+use Rattle.execution.proofs.waiting.wait.Tie as tie
+
+abbrev Inv-loop : tie.InvT-loop
+Inv-loop cells limit d₀ n₀ d n = Waiting cells limit d₀ d n
+
+abbrev μ-loop : tie.MeasureT-loop
+μ-loop cells limit d₀ n₀ d n = limit - n
+
+loop-holds : tie.Need-loop-holds Inv-loop μ-loop
+loop-holds c =
+    let f : c .args .budget .0 < 4294967296 = search needs in
+    let l : length (c .args .t1) ≡ 131 = search needs in
+    let i : length (c .args .state .inputs) ≡ 11 = search needs in
+    let o : length (c .args .state .outputs) ≡ 14 = search needs in
+    waiting-start _ _ _ f l i o (c .pre)
+
+idle-requires : tie.Need-idle-requires Inv-loop μ-loop
+idle-requires c κs = search needs
+
+returns : tie.Need-returns Inv-loop μ-loop
+returns c = ran-idle _ _ _ _ (sym (c .before .idle .ensures) ∙ c .if1 .taken) ∙ c .before .before .loop .inv .rest
+
+moving-requires : tie.Need-moving-requires Inv-loop μ-loop
+moving-requires c κs = search needs
+
+returns-2 : tie.Need-returns-2 Inv-loop μ-loop
+returns-2 c =
+    let i = sym (c .before .before .before .idle .ensures) ∙ c .before .before .if1 .left in
+    ran-moving _ _ _ _ i (sym (c .before .moving .ensures) ∙ c .if2 .taken) ∙ c .before .before .before .before .loop .inv .rest
+
+returns-3 : tie.Need-returns-3 Inv-loop μ-loop
+returns-3 c =
+    let i = sym (c .before .before .before .before .idle .ensures) ∙ c .before .before .before .if1 .left in
+    let m = sym (c .before .before .moving .ensures) ∙ c .before .if2 .left in
+    ran-spent _ _ _ _ (omega arith) i m ∙ c .before .before .before .before .before .loop .inv .rest
+
+place-of-requires : tie.Need-place-of-requires Inv-loop μ-loop
+place-of-requires c κs = search needs
+
+place-of-requires-2 : tie.Need-place-of-requires-2 Inv-loop μ-loop
+place-of-requires-2 c κs = search needs
+
+mul-cell : tie.Need-mul-cell Inv-loop μ-loop
+mul-cell c =
+    let i = sym (c .before .before .before .before .before .before .idle .ensures) ∙ c .before .before .before .before .before .if1 .left in
+    omega (arith, present-place (c .before .before .before .before .before .before .before .loop .inv) i (c .before .place-of .ensures))
+
+array-copy-out-cell : tie.Need-array-copy-out-cell Inv-loop μ-loop
+array-copy-out-cell c =
+    let i = sym (c .before .before .before .before .before .before .idle .ensures) ∙ c .before .before .before .before .before .if1 .left in
+    present-place (c .before .before .before .before .before .before .before .loop .inv) i (c .before .place-of .ensures)
+
+mul-held : tie.Need-mul-held Inv-loop μ-loop
+mul-held c = omega (arith, held-place (c .before .before .before .before .before .before .before .before .loop .inv) (c .before .place-of2 .ensures))
+
+array-copy-out-held : tie.Need-array-copy-out-held Inv-loop μ-loop
+array-copy-out-held c = held-place (c .before .before .before .before .before .before .before .before .loop .inv) (c .before .place-of2 .ensures)
+
+millisecond-requires : tie.Need-millisecond-requires Inv-loop μ-loop
+millisecond-requires c κs =
+    let b = c .before .before .before .before .before .before .before in
+    let w = b .before .before .loop .inv in
+    let i = sym (b .before .idle .ensures) ∙ b .if1 .left in
+    let p = present-place w i (c .before .before .before .place-of .ensures) in
+    (place-sound w p, place-sound w (held-place w (c .before .before .place-of2 .ensures)))
+
+add-n : tie.Need-add-n Inv-loop μ-loop
+add-n c =
+    let w = c .before .before .before .before .before .before .before .before .before .before .loop .inv in
+    omega (arith, w .fits, w .within, c .before .before .before .before .before .if3 .left)
+
+loop-less : tie.Need-loop-less Inv-loop μ-loop
+loop-less c = omega arith
+
+loop-again : tie.Need-loop-again Inv-loop μ-loop
+loop-again c =
+    let b = c .before .before .before .before .before .before in
+    let l = b .before .before .before .before .loop in
+    let a = b .before .before .before .before .before .args in
+    let h : l .n < a .budget .0 = omega (arith, l .inv .within, c .before .before .before .before .before .if3 .left) in
+    let i = sym (b .before .before .before .idle .ensures) ∙ b .before .before .if1 .left in
+    let m = sym (b .before .moving .ensures) ∙ b .if2 .left in
+    let p = place-present (a .t1) (l .d) (c .before .before .before .before .place-of .ensures) in
+    let k = place-cell (a .t1) (l .d .suspended .cell) (c .before .before .before .place-of2 .ensures) in
+    waiting-step (l .inv) h i m (c .millisecond .ensures (a .t1) p k)
+
+pub wait-spec : {M : Type 1} → statement M
+wait-spec =
+    tie.close
+    (tie.spec
+    Inv-loop
+    μ-loop
+    loop-holds
+    idle-requires
+    returns
+    moving-requires
+    returns-2
+    returns-3
+    place-of-requires
+    place-of-requires-2
+    mul-cell
+    array-copy-out-cell
+    mul-held
+    array-copy-out-held
+    millisecond-requires
+    add-n
+    loop-less
+    loop-again)

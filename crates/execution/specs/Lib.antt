@@ -1,0 +1,2 @@
+-- Waiting: what a wait hands back.
+pub mod Waiting
