@@ -1,0 +1,33 @@
+-- `slowing_halted` meets its contract: each arm is a clause of the definition.
+-- Assumes nothing.
+use Rattle.instruction.specs.declared.run.Motion.{Motion}
+use Rattle.machine.specs.Reports.{haltedSlowing}
+use Rattle.events.proofs.Telling.{told}
+use Rattle.events.proofs.reports.slowing_halted.Statement.{statement}
+use Rattle.events.proofs.reports.slowing_halted.Tie as tie
+
+pub slowing-halted-spec : {M : Type 1} → statement M
+unfolding haltedSlowing
+slowing-halted-spec =
+    tie.close
+    (tie.spec
+    (λ c. c .match .keys1)
+    (λ c κs. tt)
+    (λ c. c .match .keys2)
+    (λ c κs. tt)
+    (λ c. c .match .keys3)
+    (λ c κs. tt)
+    (λ c. c .match .keys4)
+    (λ c κs. tt)
+    (λ c. c .match .keys5)
+    (λ c κs. tt)
+    (λ c. let a = c .before .before .before .args in
+    told (λ (x : Motion). haltedSlowing x (a .state) (a .next)) (c .before .enum-told .given .1) (c .advanced .ensures))
+    (λ c. let a = c .before .before .before .args in
+    told (λ (x : Motion). haltedSlowing x (a .state) (a .next)) (c .before .enum-told2 .given .1) (c .advanced2 .ensures))
+    (λ c. let a = c .before .before .before .args in
+    told (λ (x : Motion). haltedSlowing x (a .state) (a .next)) (c .before .enum-told3 .given .1) (c .advanced3 .ensures))
+    (λ c. let a = c .before .before .before .args in
+    told (λ (x : Motion). haltedSlowing x (a .state) (a .next)) (c .before .enum-told4 .given .1) (c .search-halted .ensures))
+    (λ c. let a = c .before .before .before .args in
+    told (λ (x : Motion). haltedSlowing x (a .state) (a .next)) (c .before .enum-told5 .given .1) (c .advanced4 .ensures)))
