@@ -2,7 +2,7 @@
 -- Assumes nothing.
 use Prim.Native.Nat.{ℕ, zero, suc, _+_, _-_, _<_, _≤_}
 use native.Mathlib.Omega.{arith}
-use mathlib.Core.Path.{_≡_, refl, sym, ap, _∙_}
+use mathlib.Core.Path.{_≡_, refl, sym, ap, subst, _∙_}
 use mathlib.Core.Bool.{Bool, true, false}
 use mathlib.Core.List.{List}
 use lib.Dec.{eqb}
@@ -14,7 +14,7 @@ use Rattle.laws.proofs.Tables.{every-at}
 use Rattle.units.specs.declared.CellAddress.{CellAddress}
 use Rattle.instruction.specs.Soundness.{cellSound}
 use Rattle.instruction.specs.declared.Cell.{Cell}
-use Rattle.machine.specs.Record.{cellAt, nullCell, idle, moving}
+use Rattle.machine.specs.Record.{cellAt, nullCell, idle, underWay, moving}
 use Rattle.machine.specs.Soundness.{suspendedSound, sound}
 use Rattle.machine.specs.Milliseconds.{present, millisecond}
 use Rattle.machine.specs.Waiting.{Waited, noMore, settled, endAt, waitFrom, wait}
@@ -25,8 +25,9 @@ use Rattle.machine.specs.declared.answers.End.the-variants as end
 use Rattle.machine.proofs.Cells.{cell-to, Memory}
 use Rattle.machine.proofs.Parts.{Parts, state-parts, running-busy}
 use Rattle.machine.proofs.Milliseconds.{millisecond-sound}
-use Rattle.execution.specs.Waiting.{ranOf}
+use Rattle.execution.specs.Waiting.{delayLeft, ranOf}
 use Rattle.execution.specs.declared.waiting.Ran.{Ran}
+use Rattle.execution.proofs.Delays.{delaying, in-delay, delay-step}
 
 -- ---- the cells that a millisecond reads
 
@@ -135,6 +136,30 @@ waiting-step {cells} {limit} {s} {d} {r} {n} w h t u q =
       parts = rw q (millisecond-sound (w .memory) (w .parts));
       rest = ran-step cells d r n limit h t u q ∙ w .rest;
     }
+
+-- so many milliseconds of a delay, none of them its last
+waiting-delay :
+    {cells : List Cell} {limit : ℕ} {s : State} {n : ℕ} (d : State) (k : ℕ) → idle d ≡ false → Waiting cells limit s (delaying d k) n →
+    (g : ℕ) → g < k → n + g ≤ limit → Waiting cells limit s (delaying d (k - g)) (n + g)
+unfolding idle moving underWay
+waiting-delay {n = n} d k t w zero h l =
+    let e : k - 0 ≡ k = omega arith in
+    let z : n + 0 ≡ n = omega arith in
+    rw (e, z) w
+waiting-delay {cells} {n = n} d k t w (suc g) h l =
+    let e : k - suc g ≡ k - g - 1 = omega arith in
+    let z : n + suc g ≡ n + g + 1 = omega arith in
+    rw (e, z)
+    (waiting-step (waiting-delay d k t w g (omega arith) (omega arith)) (omega arith) t refl (delay-step cells d (k - g) t (omega arith)))
+
+-- a sound state with k milliseconds of a delay left, after fewer of them and within the budget
+pub waiting-skip :
+    {cells : List Cell} {limit : ℕ} {s d r : State} {n k g : ℕ} → Waiting cells limit s d n → idle d ≡ false → moving d ≡ false →
+    k ≡ delayLeft (d .running .remaining) → g < k → n + g ≤ limit → r ≡ delaying d (k - g) → Waiting cells limit s r (n + g)
+waiting-skip {cells} {limit} {s} {d} {r} {n} {k} {g} w t u e h l q =
+    let f = in-delay (w .parts) t u (omega arith) in
+    let v = subst (λ (x : State). Waiting cells limit s x n) (f ∙ ap (delaying d) (sym e)) w in
+    rw q (waiting-delay d k t v g h l)
 
 module _ {cells : List Cell} {limit : ℕ} {s d : State} {n : ℕ} (w : Waiting cells limit s d n) where
   -- the places of the cells that the next millisecond reads

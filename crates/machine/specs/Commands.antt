@@ -5,8 +5,8 @@ use Prim.Native.String.{String}
 use mathlib.Core.Bool.{Bool, true, false}
 use mathlib.Core.List.{List, [], _∷_}
 use lib.ListN.{length, getD, drop}
-use lib.Dec.{eqb}
-use Rattle.laws.specs.Tests.{choose}
+use lib.Dec.{eqb, ltb}
+use Rattle.laws.specs.Tests.{choose, both}
 use Rattle.laws.specs.Text.{bytes}
 use Rattle.fields.specs.Names.{pairOf}
 use Rattle.fields.specs.Rows.{parseFields, parseAll}
@@ -15,12 +15,14 @@ use Rattle.fields.specs.declared.kinds.Kind.the-variants.{Fixed, Count, Signed,
 use Rattle.fields.specs.declared.names.Names.the-variants.{Settable, Outputs, Inputs, Presets, Resolutions}
 use Rattle.fields.specs.declared.rows.Parsed.{Parsed}
 use Rattle.instruction.specs.Formats.{cell, bit}
+use Rattle.instruction.specs.Soundness.{cellSound}
 use Rattle.instruction.specs.Numbers.{byteOf, isOne}
 use Rattle.instruction.specs.Texts.{sentCell}
 use Rattle.instruction.specs.declared.text.Sent.{Sent}
 use Rattle.instruction.specs.declared.text.Sent.the-variants.{Held}
 use Rattle.instruction.specs.declared.text.Sent.the-variants as sent
 use Rattle.units.specs.declared.CellAddress.{CellAddress}
+use Rattle.machine.specs.Soundness.{isCell}
 use Rattle.machine.specs.declared.commands.Command.{Command}
 use Rattle.machine.specs.declared.commands.Command.the-variants.{Store, SetPreset, Start, EmergencyStop, FreeRunStop, SetPosition, SetOutput, SetCam, AskPosition, AskPreset, AskInput, AskOutput, AskCell, AskCam, AskFault, AskSuspended, Wrong}
 
@@ -98,3 +100,23 @@ commandOf s =
     (choose (hasCode "QC" s) (onAll [] s (λ vs. AskCam))
     (choose (hasCode "QE" s) (onAll [] s (λ vs. AskFault))
     (choose (hasCode "QR" s) (onAll [] s (λ vs. AskSuspended)) Wrong)))))))))))))))
+
+-- the names and cells of a command have a place in their lists, and a stored cell is sound: what a string says is never anything else
+unfoldable pub placed : Command → Bool
+placed (Store a c) = both (isCell a) (cellSound c)
+placed (SetPreset k v) = ltb k 5
+placed (Start a) = isCell a
+placed EmergencyStop = true
+placed FreeRunStop = true
+placed (SetPosition b) = true
+placed (SetOutput o v) = ltb o 13
+placed (SetCam v b) = true
+placed AskPosition = true
+placed (AskPreset k) = ltb k 5
+placed (AskInput k) = ltb k 11
+placed (AskOutput k) = ltb k 16
+placed (AskCell a) = isCell a
+placed AskCam = true
+placed AskFault = true
+placed AskSuspended = true
+placed Wrong = true

@@ -1,4 +1,8 @@
 // What a string asks for, once its fields are read.
+ghost use mathlib.Core.Path.{_≡_};
+ghost use Rattle.machine.specs.Commands.{presetKind};
+use fields::kinds::Kind;
+use fields::names::Names;
 use instruction::Cell;
 use units::CellAddress;
 
@@ -38,4 +42,20 @@ pub enum Command {
     AskSuspended,
     // An unknown code, a wrong field or a value out of range.
     Wrong,
+}
+
+// The values that a preset takes, by its place in AD, IN, RS, ES, CM.
+pub fn preset_kind(preset: u32) -> Kind
+    ensures { λ r. ⌜ r ≡ presetKind preset ⌝ }
+{
+    if preset == 0 {
+        return Kind::Count(0, 47);
+    }
+    if preset == 1 {
+        return Kind::Count(0, 3);
+    }
+    if preset == 2 {
+        return Kind::Name(Names::Resolutions);
+    }
+    Kind::Count(0, 1)
 }

@@ -1,5 +1,8 @@
 // The drive's numbers, each a type of its own, so that one is never taken for another: addresses,
 // steps, milliseconds and the position; and the arithmetic of runs on them.
+ghost use Prim.Native.Nat.{_-_};
+ghost use mathlib.Core.Path.{_≡_};
+
 mod bits;
 mod position;
 mod remaining;
@@ -17,6 +20,19 @@ pub struct DriveAddress(pub u8);
 
 // The address of a cell of the program memory; as a next cell, 0 is the end.
 pub struct CellAddress(pub u8);
+
+impl CellAddress {
+    // The place of the cell in the memory; of 000, which is no cell, the first.
+    pub fn place(self) -> usize
+        ensures { λ r. ⌜ r ≡ self .0 - 100 ⌝ }
+    {
+        let n = self.0 as usize;
+        if n < 100 {
+            return 0;
+        }
+        n - 100
+    }
+}
 
 // A count of steps, with the sign of its direction.
 pub struct Steps(pub i32);

@@ -8,7 +8,7 @@ use mathlib.Core.Path.{_≡_, sym, _∙_}
 use lib.ListN.{length}
 use borrow.Author.Needs.{needs}
 use Rattle.execution.proofs.Waits.{place-cell, place-present, ran-idle, ran-moving, ran-spent, Waiting}
-use Rattle.execution.proofs.Waits.{waiting-start, waiting-step, present-place, held-place, place-sound}
+use Rattle.execution.proofs.Waits.{waiting-start, waiting-step, waiting-skip, present-place, held-place, place-sound}
 use Rattle.execution.proofs.waiting.wait.Statement.{statement}
 use Rattle.execution.proofs.waiting.wait.Tie as tie
 
@@ -29,71 +29,128 @@ loop-holds c =
 idle-requires : tie.Need-idle-requires Inv-loop μ-loop
 idle-requires c κs = search needs
 
+ended-requires : tie.Need-ended-requires Inv-loop μ-loop
+ended-requires c κs = search needs
+
 returns : tie.Need-returns Inv-loop μ-loop
-returns c = ran-idle _ _ _ _ (sym (c .before .idle .ensures) ∙ c .if1 .taken) ∙ c .before .before .loop .inv .rest
+returns c =
+    let i = sym (c .before .before .idle .ensures) ∙ c .before .if1 .taken in
+    c .ended .ensures ∙ ran-idle _ _ _ _ i ∙ c .before .before .before .loop .inv .rest
 
 moving-requires : tie.Need-moving-requires Inv-loop μ-loop
 moving-requires c κs = search needs
 
+ended-requires-2 : tie.Need-ended-requires-2 Inv-loop μ-loop
+ended-requires-2 c κs = search needs
+
 returns-2 : tie.Need-returns-2 Inv-loop μ-loop
 returns-2 c =
-    let i = sym (c .before .before .before .idle .ensures) ∙ c .before .before .if1 .left in
-    ran-moving _ _ _ _ i (sym (c .before .moving .ensures) ∙ c .if2 .taken) ∙ c .before .before .before .before .loop .inv .rest
+    let i = sym (c .before .before .before .before .idle .ensures) ∙ c .before .before .before .if1 .left in
+    let m = sym (c .before .before .moving .ensures) ∙ c .before .if2 .taken in
+    c .ended2 .ensures ∙ ran-moving _ _ _ _ i m ∙ c .before .before .before .before .before .loop .inv .rest
+
+ended-requires-3 : tie.Need-ended-requires-3 Inv-loop μ-loop
+ended-requires-3 c κs = search needs
 
 returns-3 : tie.Need-returns-3 Inv-loop μ-loop
 returns-3 c =
-    let i = sym (c .before .before .before .before .idle .ensures) ∙ c .before .before .before .if1 .left in
-    let m = sym (c .before .before .moving .ensures) ∙ c .before .if2 .left in
-    ran-spent _ _ _ _ (omega arith) i m ∙ c .before .before .before .before .before .loop .inv .rest
+    let i = sym (c .before .before .before .before .before .idle .ensures) ∙ c .before .before .before .before .if1 .left in
+    let m = sym (c .before .before .before .moving .ensures) ∙ c .before .before .if2 .left in
+    c .ended3 .ensures ∙ ran-spent _ _ _ _ (omega arith) i m ∙ c .before .before .before .before .before .before .loop .inv .rest
 
-place-of-requires : tie.Need-place-of-requires Inv-loop μ-loop
-place-of-requires c κs = search needs
+delay-left-requires : tie.Need-delay-left-requires Inv-loop μ-loop
+delay-left-requires c κs = search needs
 
-place-of-requires-2 : tie.Need-place-of-requires-2 Inv-loop μ-loop
-place-of-requires-2 c κs = search needs
+sub-lesser : tie.Need-sub-lesser Inv-loop μ-loop
+sub-lesser c = omega arith
 
-mul-cell : tie.Need-mul-cell Inv-loop μ-loop
-mul-cell c =
-    let i = sym (c .before .before .before .before .before .before .idle .ensures) ∙ c .before .before .before .before .before .if1 .left in
-    omega (arith, present-place (c .before .before .before .before .before .before .before .loop .inv) i (c .before .place-of .ensures))
+sub-lesser-2 : tie.Need-sub-lesser-2 Inv-loop μ-loop
+sub-lesser-2 c = omega (arith, c .before .before .before .before .before .before .before .loop .inv .within)
 
-array-copy-out-cell : tie.Need-array-copy-out-cell Inv-loop μ-loop
-array-copy-out-cell c =
-    let i = sym (c .before .before .before .before .before .before .idle .ensures) ∙ c .before .before .before .before .before .if1 .left in
-    present-place (c .before .before .before .before .before .before .before .loop .inv) i (c .before .place-of .ensures)
+lesser-requires : tie.Need-lesser-requires Inv-loop μ-loop
+lesser-requires c κs = search needs
 
-mul-held : tie.Need-mul-held Inv-loop μ-loop
-mul-held c = omega (arith, held-place (c .before .before .before .before .before .before .before .before .loop .inv) (c .before .place-of2 .ensures))
+sub-left : tie.Need-sub-left Inv-loop μ-loop
+sub-left c = omega (arith, c .lesser .ensures)
 
-array-copy-out-held : tie.Need-array-copy-out-held Inv-loop μ-loop
-array-copy-out-held c = held-place (c .before .before .before .before .before .before .before .before .loop .inv) (c .before .place-of2 .ensures)
-
-millisecond-requires : tie.Need-millisecond-requires Inv-loop μ-loop
-millisecond-requires c κs =
-    let b = c .before .before .before .before .before .before .before in
-    let w = b .before .before .loop .inv in
-    let i = sym (b .before .idle .ensures) ∙ b .if1 .left in
-    let p = present-place w i (c .before .before .before .place-of .ensures) in
-    (place-sound w p, place-sound w (held-place w (c .before .before .place-of2 .ensures)))
+in-phase-requires : tie.Need-in-phase-requires Inv-loop μ-loop
+in-phase-requires c κs = search needs
 
 add-n : tie.Need-add-n Inv-loop μ-loop
 add-n c =
-    let w = c .before .before .before .before .before .before .before .before .before .before .loop .inv in
-    omega (arith, w .fits, w .within, c .before .before .before .before .before .if3 .left)
+    let w = c .before .before .before .before .before .before .before .before .before .loop .inv in
+    omega (arith, w .fits, w .within, c .before .lesser .ensures)
 
 loop-less : tie.Need-loop-less Inv-loop μ-loop
-loop-less c = omega arith
+loop-less c = omega (arith, c .before .lesser .ensures)
 
 loop-again : tie.Need-loop-again Inv-loop μ-loop
 loop-again c =
-    let b = c .before .before .before .before .before .before in
-    let l = b .before .before .before .before .loop in
-    let a = b .before .before .before .before .before .args in
-    let h : l .n < a .budget .0 = omega (arith, l .inv .within, c .before .before .before .before .before .if3 .left) in
+    let b = c .before .before .before .before .before in
     let i = sym (b .before .before .before .idle .ensures) ∙ b .before .before .if1 .left in
     let m = sym (b .before .moving .ensures) ∙ b .if2 .left in
-    let p = place-present (a .t1) (l .d) (c .before .before .before .before .place-of .ensures) in
-    let k = place-cell (a .t1) (l .d .suspended .cell) (c .before .before .before .place-of2 .ensures) in
+    let k = c .before .before .before .delay-left .ensures in
+    let w = b .before .before .before .before .loop .inv in
+    let g = c .before .lesser .ensures in
+    waiting-skip w i m k (omega (arith, g)) (omega (arith, g, w .within)) (c .in-phase .ensures)
+
+place-requires : tie.Need-place-requires Inv-loop μ-loop
+place-requires c κs = search needs
+
+place-requires-2 : tie.Need-place-requires-2 Inv-loop μ-loop
+place-requires-2 c κs = search needs
+
+mul-cell : tie.Need-mul-cell Inv-loop μ-loop
+mul-cell c =
+    let b = c .before .before .before .before .before .before .before in
+    let i = sym (b .before .idle .ensures) ∙ b .if1 .left in
+    omega (arith, present-place (b .before .before .loop .inv) i (c .before .place .ensures))
+
+array-copy-out-cell : tie.Need-array-copy-out-cell Inv-loop μ-loop
+array-copy-out-cell c =
+    let b = c .before .before .before .before .before .before .before in
+    let i = sym (b .before .idle .ensures) ∙ b .if1 .left in
+    present-place (b .before .before .loop .inv) i (c .before .place .ensures)
+
+mul-held : tie.Need-mul-held Inv-loop μ-loop
+mul-held c =
+    let w = c .before .before .before .before .before .before .before .before .before .before .loop .inv in
+    omega (arith, held-place w (c .before .place2 .ensures))
+
+array-copy-out-held : tie.Need-array-copy-out-held Inv-loop μ-loop
+array-copy-out-held c =
+    let w = c .before .before .before .before .before .before .before .before .before .before .loop .inv in
+    held-place w (c .before .place2 .ensures)
+
+millisecond-requires : tie.Need-millisecond-requires Inv-loop μ-loop
+millisecond-requires c κs =
+    let b = c .before .before .before .before .before .before .before .before .before in
+    let w = b .before .before .loop .inv in
+    let i = sym (b .before .idle .ensures) ∙ b .if1 .left in
+    let p = present-place w i (c .before .before .before .place .ensures) in
+    (place-sound w p, place-sound w (held-place w (c .before .before .place2 .ensures)))
+
+add-n-2 : tie.Need-add-n-2 Inv-loop μ-loop
+add-n-2 c =
+    let b = c .before .before .before .before .before .before .before in
+    let w = b .before .before .before .before .before .loop .inv in
+    omega (arith, w .fits, w .within, b .if3 .left)
+
+loop-less-2 : tie.Need-loop-less-2 Inv-loop μ-loop
+loop-less-2 c =
+    let b = c .before .before .before .before .before .before .before in
+    omega (arith, b .before .before .before .before .before .loop .inv .within, b .if3 .left)
+
+loop-again-2 : tie.Need-loop-again-2 Inv-loop μ-loop
+loop-again-2 c =
+    let b = c .before .before .before .before .before .before .before in
+    let l = b .before .before .before .before .before .loop in
+    let a = b .before .before .before .before .before .before .args in
+    let h : l .n < a .budget .0 = omega (arith, l .inv .within, b .if3 .left) in
+    let i = sym (b .before .before .before .before .idle .ensures) ∙ b .before .before .before .if1 .left in
+    let m = sym (b .before .before .moving .ensures) ∙ b .before .if2 .left in
+    let p = place-present (a .t1) (l .d) (c .before .before .before .before .place .ensures) in
+    let k = place-cell (a .t1) (l .d .suspended .cell) (c .before .before .before .place2 .ensures) in
     waiting-step (l .inv) h i m (c .millisecond .ensures (a .t1) p k)
 
 pub wait-spec : {M : Type 1} → statement M
@@ -104,17 +161,29 @@ wait-spec =
     μ-loop
     loop-holds
     idle-requires
+    ended-requires
     returns
     moving-requires
+    ended-requires-2
     returns-2
+    ended-requires-3
     returns-3
-    place-of-requires
-    place-of-requires-2
+    delay-left-requires
+    sub-lesser
+    sub-lesser-2
+    lesser-requires
+    sub-left
+    in-phase-requires
+    add-n
+    loop-less
+    loop-again
+    place-requires
+    place-requires-2
     mul-cell
     array-copy-out-cell
     mul-held
     array-copy-out-held
     millisecond-requires
-    add-n
-    loop-less
-    loop-again)
+    add-n-2
+    loop-less-2
+    loop-again-2)

@@ -1,0 +1,44 @@
+-- What soundness asks in each phase of a run, of the run's profile in hand.
+-- Assumes nothing.
+use mathlib.Core.Path.{_≡_}
+use mathlib.Core.Bool.{Bool, true, not}
+use lib.Dec.{eqb}
+use Rattle.laws.specs.Tests.{choose, both, either}
+use Rattle.instruction.specs.Runs.{profileOf}
+use Rattle.instruction.specs.declared.Instruction.{Instruction}
+use Rattle.instruction.specs.declared.run.Motion.{Motion}
+use Rattle.instruction.specs.declared.run.Profile.{Profile}
+use Rattle.machine.specs.Soundness.{isNothing, isSteps, isStepsAlong, isIndexed, hasRamp, runPhase, brakingPhase, slowingPhase, backPhase}
+use Rattle.machine.specs.Soundness.{hasPhase, emergencyRest, busyRest, markSound}
+use Rattle.machine.specs.declared.Remaining.{Remaining}
+use Rattle.machine.specs.declared.Phase.the-variants.{Run, Braking, Slowing, EmergencySlowing, BackOff}
+use Rattle.soundness.specs.Phases.{phaseSound}
+use Rattle.soundness.proofs.Telling.{told}
+
+-- given p, the profile of i, and m, how its run goes
+module _ (i : Instruction) (r : Remaining) (mark : Bool) {p : Profile} where
+  pub run-by : {m : Motion} {x : Bool} → p ≡ profileOf i → p .motion ≡ m →
+      x ≡ both (runPhase m) (both (choose (isIndexed m) (isSteps r) (isNothing r)) (either (not (eqb (p .ramp) 0)) (not mark))) →
+      x ≡ phaseSound Run i r mark
+  unfolding phaseSound hasPhase busyRest markSound hasRamp
+  run-by e t h = rw (← e, t) h
+
+  pub braking-by : {m : Motion} {x : Bool} → p ≡ profileOf i → p .motion ≡ m →
+      x ≡ both (brakingPhase m) (both (isStepsAlong (p .backward) r) mark) → x ≡ phaseSound Braking i r mark
+  unfolding phaseSound hasPhase busyRest markSound
+  braking-by e t h = rw (← e, t) h
+
+  pub slowing-by : {m : Motion} {x : Bool} → p ≡ profileOf i → p .motion ≡ m →
+      x ≡ both (slowingPhase m p) (both (isNothing r) true) → x ≡ phaseSound Slowing i r mark
+  unfolding phaseSound hasPhase busyRest markSound
+  slowing-by e t h = rw (← e) (told (λ (m : Motion). both (slowingPhase m p) (both (isNothing r) true)) t h)
+
+  pub emergency-by : {x : Bool} → p ≡ profileOf i →
+      x ≡ both (not (eqb (p .ramp) 0)) (both (emergencyRest (p .motion) p r) true) → x ≡ phaseSound EmergencySlowing i r mark
+  unfolding phaseSound hasPhase busyRest markSound hasRamp
+  emergency-by e h = rw (← e) h
+
+  pub back-by : {m : Motion} {x : Bool} → p ≡ profileOf i → p .motion ≡ m →
+      x ≡ both (backPhase m) (both (isNothing r) (not mark)) → x ≡ phaseSound BackOff i r mark
+  unfolding phaseSound hasPhase busyRest markSound
+  back-by e t h = rw (← e, t) h

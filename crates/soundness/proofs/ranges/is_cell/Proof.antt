@@ -1,0 +1,10 @@
+-- `ranges::is_cell` meets its contract: the two tests are the definition's.
+-- Assumes nothing.
+use Rattle.machine.specs.Soundness.{isCell}
+use Rattle.soundness.proofs.Joins.{and-both}
+use Rattle.soundness.proofs.ranges.is_cell.Statement.{statement}
+use Rattle.soundness.proofs.ranges.is_cell.Tie as tie
+
+pub is-cell-spec : {M : Type 1} → statement M
+unfolding isCell
+is-cell-spec = tie.close (tie.spec (λ c. and-both _ _))

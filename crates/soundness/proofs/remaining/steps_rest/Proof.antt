@@ -1,0 +1,17 @@
+-- `remaining::steps_rest` meets its contract: the number is read back from its bits.
+-- Assumes nothing.
+use borrow.Author.Needs.{needs}
+use Rattle.machine.specs.Soundness.{stepsRest}
+use Rattle.soundness.proofs.Joins.{and-both}
+use Rattle.soundness.proofs.Comparisons.{within-bits}
+use Rattle.soundness.proofs.remaining.steps_rest.Statement.{statement}
+use Rattle.soundness.proofs.remaining.steps_rest.Tie as tie
+
+returns : tie.Need-returns
+unfolding stepsRest
+returns c =
+    let n = c .before .before .before .before .before .args .n in
+    rw (within-bits (n .0) (search needs), c .is-zero .ensures) (and-both _ _)
+
+pub steps-rest-spec : {M : Type 1} → statement M
+steps-rest-spec = tie.close (tie.spec (λ c. search needs) (λ c κs. tt) returns)

@@ -1,0 +1,16 @@
+-- `running::emergency_sound` meets its contract: the ramp, and what remains.
+-- Assumes nothing.
+use mathlib.Core.Path.{refl, sym, _∙_}
+use Rattle.soundness.proofs.Joins.{and-as, both-end}
+use Rattle.soundness.proofs.Phases.{emergency-by}
+use Rattle.soundness.proofs.running.emergency_sound.Statement.{statement}
+use Rattle.soundness.proofs.running.emergency_sound.Tie as tie
+
+pub emergency-sound-spec : {M : Type 1} → statement M
+emergency-sound-spec =
+    tie.close
+    (tie.spec
+    (λ c κs. tt)
+    (λ c κs. tt)
+    (λ c mark. emergency-by _ _ mark (c .before .before .profile .ensures)
+    (and-as refl (c .emergency-rest .ensures ∙ sym (both-end _)))))

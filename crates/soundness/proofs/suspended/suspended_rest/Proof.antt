@@ -1,0 +1,29 @@
+-- `suspended::suspended_rest` meets its contract: each arm is a clause of the definition.
+-- Assumes nothing.
+use mathlib.Core.Path.{refl}
+use Rattle.machine.specs.Soundness.{suspendedRest}
+use Rattle.machine.specs.declared.Remaining.{Remaining}
+use Rattle.soundness.proofs.Joins.{and-as}
+use Rattle.soundness.proofs.Telling.{told}
+use Rattle.soundness.proofs.suspended.suspended_rest.Statement.{statement}
+use Rattle.soundness.proofs.suspended.suspended_rest.Tie as tie
+
+pub suspended-rest-spec : {M : Type 1} → statement M
+unfolding suspendedRest
+suspended-rest-spec =
+    tie.close
+    (tie.spec
+    (λ c. c .match .keys1)
+    (λ c. c .match .keys2)
+    (λ c κs. tt)
+    (λ c κs. tt)
+    (λ c. c .match .keys3)
+    (λ c κs. tt)
+    (λ c κs. tt)
+    (λ c. told (λ (x : Remaining). suspendedRest x (c .before .before .args .instruction)) (c .enum-told .given .1) refl)
+    (λ c. told (λ (x : Remaining). suspendedRest x (c .before .before .before .before .before .args .instruction))
+    (c .before .before .before .remaining .given .1)
+    (and-as (c .before .is-indexed .ensures) (c .steps-rest .ensures)))
+    (λ c. told (λ (x : Remaining). suspendedRest x (c .before .before .before .before .before .args .instruction))
+    (c .before .before .before .remaining2 .given .1)
+    (and-as (c .before .is-delay .ensures) (c .time-rest .ensures))))
