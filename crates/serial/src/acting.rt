@@ -1,0 +1,227 @@
+// What a command does to the state, given the cell that it names.
+ghost use Prim.Native.Nat.{_<_};
+ghost use mathlib.Core.Path.{_≡_};
+ghost use mathlib.Core.Bool.{true};
+ghost use Rattle.laws.specs.Tests.{choose};
+ghost use Rattle.instruction.specs.Runs.{profileOf};
+ghost use Rattle.instruction.specs.Soundness.{cellSound};
+ghost use Rattle.machine.specs.Record.{nothingSuspended, withSuspended, withPresets, withPosition};
+ghost use Rattle.machine.specs.Record.{withOutput, withCam, inputAt, inEE};
+ghost use Rattle.machine.specs.Starting.{started as startedOf};
+ghost use Rattle.machine.specs.Stopping.{freeRunStopIn};
+ghost use Rattle.machine.specs.Commands.{placed};
+ghost use Rattle.machine.specs.Strings.{sameContent, resolutionAt, withResolution, presetSet};
+ghost use Rattle.serial.specs.Acting.{named as namedOf, storedState, actedAt};
+use events::stopping::emergency_stop;
+use events::stopping::free_run_stop;
+use execution::starting::started;
+use instruction::Cell;
+use machine::Cam;
+use machine::Presets;
+use machine::Remaining;
+use machine::Resolution;
+use machine::State;
+use machine::Suspended;
+use machine::commands::Command;
+use units::CellAddress;
+use units::DriveAddress;
+use units::Position;
+
+// Whether two cells hold the same instruction, with its next.
+pub fn same_content(a: Cell, b: Cell) -> bool
+    ensures { λ r. ⌜ r ≡ sameContent a b ⌝ }
+{
+    let x = a.instruction;
+    let y = b.instruction;
+    let xs = a.numbers();
+    let ys = b.numbers();
+    let mut same = x.code() == y.code();
+    let mut i: usize = 0;
+    while i < 6 {
+        same = same & (xs[i] == ys[i]);
+        i += 1;
+    }
+    same
+}
+
+fn emptied(mut state: State) -> State
+    ensures { λ r. ⌜ r ≡ withSuspended state nothingSuspended ⌝ }
+{
+    let suspended = Suspended {
+        cell: CellAddress(0),
+        remaining: Remaining::Nothing,
+        loops: 0,
+    };
+    state.suspended = suspended;
+    state
+}
+
+// Changed content in the interrupted record's cell empties the record.
+fn stored(state: State, at: CellAddress, old: Cell, new: Cell) -> State
+    ensures { λ r. ⌜ r ≡ storedState state at old new ⌝ }
+{
+    if at.0 != state.suspended.cell.0 {
+        return state;
+    }
+    if same_content(old, new) {
+        return state;
+    }
+    emptied(state)
+}
+
+fn resolution_at(place: u8) -> Resolution
+    ensures { λ r. ⌜ r ≡ resolutionAt place ⌝ }
+{
+    match place {
+        0 => Resolution::D0,
+        1 => Resolution::D1,
+        2 => Resolution::D2,
+        3 => Resolution::D3,
+        4 => Resolution::B0,
+        5 => Resolution::B1,
+        6 => Resolution::B2,
+        _ => Resolution::B3,
+    }
+}
+
+fn with_resolution(presets: Presets, value: u8) -> Presets
+    ensures { λ r. ⌜ r ≡ withResolution presets value ⌝ }
+{
+    Presets {
+        address: DriveAddress(presets.address.0),
+        current: presets.current,
+        resolution: resolution_at(value),
+        interlock: presets.interlock,
+        absolute: presets.absolute,
+    }
+}
+
+fn preset_set(mut presets: Presets, preset: u8, value: u8) -> Presets
+    ensures { λ r. ⌜ r ≡ presetSet presets preset value ⌝ }
+{
+    if preset == 0 {
+        presets.address.0 = value;
+        return presets;
+    }
+    if preset == 1 {
+        presets.current = value;
+        return presets;
+    }
+    if preset == 2 {
+        return with_resolution(presets, value);
+    }
+    if preset == 3 {
+        presets.interlock = value == 1;
+        return presets;
+    }
+    presets.absolute = value == 1;
+    presets
+}
+
+fn preset_stored(mut state: State, preset: u8, value: u8) -> State
+    ensures { λ r. ⌜ r ≡ withPresets state (presetSet (state .presets) preset value) ⌝ }
+{
+    let old = state.presets;
+    let presets = preset_set(old, preset, value);
+    state.presets = presets;
+    state
+}
+
+// PS is rejected while input EE is on.
+fn started_by(state: State, at: CellAddress) -> State
+    ensures { λ r. ⌜ r ≡ choose (inputAt state inEE) state (startedOf state at) ⌝ }
+{
+    if state.inputs[10] {
+        return state;
+    }
+    started(state, at)
+}
+
+fn run_stopped(state: State, cell: Cell) -> State
+    requires { ⌜ cellSound cell ≡ true ⌝ }
+    ensures { λ r. ⌜ r ≡ freeRunStopIn (state .running .phase) state
+        (profileOf (cell .instruction)) (cell .next) ⌝ }
+{
+    let instruction = cell.instruction;
+    let profile = instruction.profile();
+    free_run_stop(state, profile, cell.next)
+}
+
+fn position_set(mut state: State, bits: u32) -> State
+    ensures { λ r. ⌜ r ≡ withPosition state (record { 0 = bits }) ⌝ }
+{
+    let position = Position(bits);
+    state.position = position;
+    state
+}
+
+fn output_set(mut state: State, output: u8, on: bool) -> State
+    requires { ⌜ output < 14 ⌝ }
+    ensures { λ r. ⌜ r ≡ withOutput state output on ⌝ }
+{
+    let i = output as usize;
+    state.outputs[i] = on;
+    state
+}
+
+fn cam_set(mut state: State, set: bool, bits: u32) -> State
+    ensures { λ r. ⌜ r ≡ withCam state (record { set = set; position = record { 0 = bits } }) ⌝ }
+{
+    let cam = Cam {
+        set,
+        position: Position(bits),
+    };
+    state.cam = cam;
+    state
+}
+
+// The state after a command. The cell is the one named by `named`.
+pub fn acted(command: Command, state: State, cell: Cell) -> State
+    requires { ⌜ (placed command ≡ true) × (cellSound cell ≡ true) ⌝ }
+    ensures { λ r. ⌜ r ≡ actedAt command state cell ⌝ }
+{
+    match command {
+        Command::Store { at, cell: new } => stored(state, at, cell, new),
+        Command::SetPreset { preset, value } => preset_stored(state, preset, value),
+        Command::Start { at } => started_by(state, at),
+        Command::EmergencyStop => emergency_stop(state, cell),
+        Command::FreeRunStop => run_stopped(state, cell),
+        Command::SetPosition { bits } => position_set(state, bits),
+        Command::SetOutput { output, on } => output_set(state, output, on),
+        Command::SetCam { set, bits } => cam_set(state, set, bits),
+        Command::AskPosition => state,
+        Command::AskPreset { .. } => state,
+        Command::AskInput { .. } => state,
+        Command::AskOutput { .. } => state,
+        Command::AskCell { .. } => state,
+        Command::AskCam => state,
+        Command::AskFault => state,
+        Command::AskSuspended => state,
+        Command::Wrong => state,
+    }
+}
+
+// The cell that a command is about: the one that it stores or asks for, else the present one.
+pub fn named(command: Command, state: State) -> CellAddress
+    ensures { λ r. ⌜ r ≡ namedOf command state ⌝ }
+{
+    match command {
+        Command::Store { at, .. } => at,
+        Command::SetPreset { .. } => state.running.cell,
+        Command::Start { .. } => state.running.cell,
+        Command::EmergencyStop => state.running.cell,
+        Command::FreeRunStop => state.running.cell,
+        Command::SetPosition { .. } => state.running.cell,
+        Command::SetOutput { .. } => state.running.cell,
+        Command::SetCam { .. } => state.running.cell,
+        Command::AskPosition => state.running.cell,
+        Command::AskPreset { .. } => state.running.cell,
+        Command::AskInput { .. } => state.running.cell,
+        Command::AskOutput { .. } => state.running.cell,
+        Command::AskCell { at } => at,
+        Command::AskCam => state.running.cell,
+        Command::AskFault => state.running.cell,
+        Command::AskSuspended => state.running.cell,
+        Command::Wrong => state.running.cell,
+    }
+}
