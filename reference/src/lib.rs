@@ -5,8 +5,9 @@
 //! (what a cell holds), `fields` (words and numbers as text), `program` (starting, milliseconds,
 //! taking a cell), `stops` (inputs words, the two stops), `board` (reports and orders), `wait`,
 //! `serial` (strings and answers), `reading` (the full reading). Around the drive: `console`,
-//! `replay` with its `raw` writes, and `generate` (random scripts).
+//! `replay` with its `raw` writes, `generate` (random scripts) and `bench`.
 
+pub mod bench;
 pub mod board;
 pub mod console;
 pub mod fields;

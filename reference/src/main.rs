@@ -1,5 +1,7 @@
-//! `reference replay`, `reference generate SEED CALLS`, `reference console`.
+//! `reference replay`, `reference generate SEED CALLS`, `reference console`, `reference bench NAME
+//! COUNT`.
 
+use reference::bench;
 use reference::console::console;
 use reference::generate::script;
 use reference::replay::Replay;
@@ -17,12 +19,16 @@ fn main() -> ExitCode {
             console(io::stdin().lock(), io::stdout().lock());
             ExitCode::SUCCESS
         }
+        ["bench", name, count] => benchmark(name, count),
         _ => usage(),
     }
 }
 
 fn usage() -> ExitCode {
-    eprintln!("usage: reference replay | reference generate SEED CALLS | reference console");
+    eprintln!(
+        "usage: reference replay | reference generate SEED CALLS | reference console | \
+         reference bench NAME COUNT"
+    );
     ExitCode::from(2)
 }
 
@@ -56,4 +62,13 @@ fn generate(seed: &str, calls: &str) -> ExitCode {
         Ok(()) => ExitCode::SUCCESS,
         Err(_) => ExitCode::from(2),
     }
+}
+
+/// The sum of a benchmark, to standard output.
+fn benchmark(name: &str, count: &str) -> ExitCode {
+    let Some(sum) = count.parse().ok().and_then(|count| bench::bench(name, count)) else {
+        return usage();
+    };
+    println!("{sum}");
+    ExitCode::SUCCESS
 }

@@ -1,0 +1,93 @@
+// The loops that are timed. The drive that a call hands back goes into the next one.
+use crate::sums::added;
+use crate::sums::answer_seen;
+use crate::sums::order_seen;
+use crate::sums::seen;
+use crate::sums::wait_seen;
+use drive::Drive;
+use drive::results::Done;
+use units::Milliseconds;
+
+pub enum Event {
+    Inputs,
+    Millisecond,
+    Step,
+    Halted,
+}
+
+// The eighth byte of a string counts: a WN or a QM goes over ten cells.
+fn set_digit(text: &mut [u8], k: u32) {
+    if 7 < text.len() {
+        text[7] = b'0' + (k % 10) as u8;
+    }
+}
+
+pub fn strings(text: &mut [u8], buffer: &mut [u8], drive: Drive, count: u32) -> u32 {
+    let mut d = drive;
+    let mut sum: u32 = 0;
+    let mut k: u32 = 0;
+    while k < count {
+        set_digit(text, k);
+        let told = d.string(text, buffer);
+        d = told.drive;
+        sum = added(sum, answer_seen(told.length, buffer));
+        k += 1;
+    }
+    sum
+}
+
+// The inputs I0 to I2 count, so that no word starts or stops a program.
+fn given(event: Event, drive: Drive, k: u32) -> Done {
+    match event {
+        Event::Inputs => drive.inputs((k % 8) as u16),
+        Event::Millisecond => drive.millisecond(),
+        Event::Step => drive.step(),
+        Event::Halted => drive.halted(),
+    }
+}
+
+pub fn events(event: Event, drive: Drive, count: u32) -> u32 {
+    let mut d = drive;
+    let mut sum: u32 = 0;
+    let mut k: u32 = 0;
+    while k < count {
+        let done = given(event, d, k);
+        d = done.drive;
+        let refusal = done.refusal;
+        let state = d.machine.state;
+        sum = added(sum, seen(refusal, state));
+        k += 1;
+    }
+    sum
+}
+
+// IN counts, so that no order is the one before it.
+pub fn orders(drive: Drive, count: u32) -> u32 {
+    let mut d = drive;
+    let mut sum: u32 = 0;
+    let mut k: u32 = 0;
+    while k < count {
+        let current = (k % 4) as u8;
+        d.machine.state.presets.current = current;
+        let order = d.order();
+        sum = added(sum, order_seen(order));
+        k += 1;
+    }
+    sum
+}
+
+pub fn waits(drive: Drive, count: u32) -> u32 {
+    let mut d = drive;
+    let mut sum: u32 = 0;
+    let mut k: u32 = 0;
+    while k < count {
+        let waited = d.wait(Milliseconds(1_000_000));
+        d = waited.drive;
+        let ending = waited.ending;
+        let refusal = waited.refusal;
+        let state = d.machine.state;
+        sum = added(added(sum, wait_seen(ending)), seen(refusal, state));
+        k += 1;
+    }
+    sum
+}

@@ -1,0 +1,136 @@
+// Benchmarks of the public calls: reads one line `NAME COUNT` from standard input, makes that many
+// calls on one drive, and writes a sum of what each call showed. bin/bench times it beside the
+// second implementation, which does the same for the same line.
+mod calls;
+mod memory;
+mod sums;
+
+use calls::Event;
+use decimal::parse::Number;
+use drive::Drive;
+use sums::added;
+
+// An idle drive: a request that changes nothing stands for a start.
+fn idle() -> Drive {
+    memory::started(b"00QA\r")
+}
+
+// A drive that runs the program at a cell, after one millisecond.
+fn looping() -> Drive {
+    memory::started(b"00PS,200\r")
+}
+
+fn delaying() -> Drive {
+    memory::started(b"00PS,210\r")
+}
+
+fn moving() -> Drive {
+    memory::started(b"00PS,220\r")
+}
+
+// A string that is told again and again.
+fn told(text: &mut [u8], count: u32) -> u32 {
+    let mut buffer = [0u8; 64];
+    calls::strings(text, &mut buffer, idle(), count)
+}
+
+fn strings(name: &[u8], count: u32) -> u32 {
+    if check::same(name, b"wn") {
+        let mut text = *b"00WN,100,01,10,20,+5000,x1,101\r";
+        return told(&mut text, count);
+    }
+    if check::same(name, b"qm") {
+        let mut text = *b"00QM,100\r";
+        return told(&mut text, count);
+    }
+    if check::same(name, b"qa") {
+        let mut text = *b"00QA\r";
+        return told(&mut text, count);
+    }
+    events(name, count)
+}
+
+fn events(name: &[u8], count: u32) -> u32 {
+    if check::same(name, b"inputs") {
+        return calls::events(Event::Inputs, idle(), count);
+    }
+    if check::same(name, b"delay") {
+        return calls::events(Event::Millisecond, delaying(), count);
+    }
+    if check::same(name, b"cell") {
+        return calls::events(Event::Millisecond, looping(), count);
+    }
+    if check::same(name, b"step") {
+        return calls::events(Event::Step, moving(), count);
+    }
+    others(name, count)
+}
+
+// Calls that change nothing, and waits.
+fn others(name: &[u8], count: u32) -> u32 {
+    if check::same(name, b"refused") {
+        return calls::events(Event::Step, idle(), count);
+    }
+    if check::same(name, b"halted") {
+        return calls::events(Event::Halted, idle(), count);
+    }
+    if check::same(name, b"order") {
+        return calls::orders(moving(), count);
+    }
+    if check::same(name, b"wait") {
+        return calls::waits(looping(), count);
+    }
+    if check::same(name, b"long") {
+        return calls::waits(delaying(), count);
+    }
+    0
+}
+
+// Every benchmark, one after the other.
+fn all(count: u32) -> u32 {
+    let mut sum = added(0, strings(b"wn", count));
+    sum = added(sum, strings(b"qm", count));
+    sum = added(sum, strings(b"qa", count));
+    sum = added(sum, events(b"inputs", count));
+    sum = added(sum, events(b"delay", count));
+    sum = added(sum, events(b"cell", count));
+    sum = added(sum, events(b"step", count));
+    sum = added(sum, others(b"refused", count));
+    sum = added(sum, others(b"halted", count));
+    sum = added(sum, others(b"order", count));
+    sum = added(sum, others(b"wait", count));
+    added(sum, others(b"long", count))
+}
+
+fn named(name: &[u8], count: u32) -> u32 {
+    if check::same(name, b"all") {
+        return all(count);
+    }
+    strings(name, count)
+}
+
+fn count_in(text: &[u8]) -> u32 {
+    let number = decimal::parse::read_number(text);
+    match number {
+        Number::Value(count) => count,
+        Number::Bad => 0,
+    }
+}
+
+// The line, without its line feed.
+fn asked(line: &[u8]) -> u32 {
+    let end = bytes::scan::find(line, 0, line.len(), b'\n');
+    let at = bytes::scan::find(line, 0, end, b' ');
+    if at < end {
+        return named(&line[0..at], count_in(&line[at + 1..end]));
+    }
+    0
+}
+
+fn main() {
+    let mut space = io::buffer();
+    let n = io::read_full(0, &mut space);
+    let sum = asked(&space[..n]);
+    io::print_decimal(1, sum as u64);
+    io::write_all(1, b"\n");
+}

@@ -1,0 +1,77 @@
+// The sum of what the calls showed: each call moves it, and so does their order.
+use drive::results::Ending;
+use drive::results::Ordered;
+use drive::results::Refusal;
+use machine::Remaining;
+use machine::State;
+use machine::answers::BoardOrder;
+use std::num::wrapping_add_u32;
+
+pub fn added(sum: u32, seen: u32) -> u32 {
+    ((sum as u64 * 31 + seen as u64) % 1_000_003) as u32
+}
+
+fn wide(byte: u8) -> u32 {
+    byte as u32
+}
+
+// An answer's length and one of its bytes.
+pub fn answer_seen(length: usize, buffer: &[u8]) -> u32 {
+    let n = (length % 256) as u32 * 256;
+    if 10 < buffer.len() {
+        return wrapping_add_u32(n, wide(buffer[10]));
+    }
+    n
+}
+
+fn remaining_bits(remaining: Remaining) -> u32 {
+    match remaining {
+        Remaining::Nothing => 0,
+        Remaining::Counted(steps) => steps.bits(),
+        Remaining::Timed(delay) => delay.0,
+    }
+}
+
+fn bit(on: bool) -> u32 {
+    if on { 1 } else { 0 }
+}
+
+// What an event showed: its refusal and, of the state after it, I0 and what a program changes.
+pub fn seen(refusal: Refusal, state: State) -> u32 {
+    let running = state.running;
+    let remaining = running.remaining;
+    let shown = wrapping_add_u32(refusal.number() as u32, bit(state.inputs[0]));
+    let place = wrapping_add_u32(running.cell.0 as u32, running.loops as u32);
+    wrapping_add_u32(wrapping_add_u32(shown, place), remaining_bits(remaining))
+}
+
+fn board_seen(order: BoardOrder) -> u32 {
+    match order {
+        BoardOrder::Stand(_) => 1,
+        BoardOrder::Slow(_) => 2,
+        BoardOrder::Run {
+            lines,
+            hertz,
+            remaining,
+            ..
+        } => wrapping_add_u32(
+            wrapping_add_u32(hertz, remaining.bits()),
+            lines.current as u32,
+        ),
+    }
+}
+
+pub fn order_seen(order: Ordered) -> u32 {
+    match order {
+        Ordered::Refused(_) => 0,
+        Ordered::Order(board) => board_seen(board),
+    }
+}
+
+// The milliseconds that a wait gave.
+pub fn wait_seen(ending: Ending) -> u32 {
+    match ending {
+        Ending::NoWait => 0,
+        Ending::Ended { given, .. } => given.0,
+    }
+}

@@ -1,0 +1,154 @@
+//! `reference bench NAME COUNT`: the benchmarks of the program `bench`, call for call. Both write
+//! the same sum of what each call showed, so both did the same work.
+
+use crate::board::Order;
+use crate::instruction::Cell;
+use crate::memory::Drive;
+use std::hint::black_box;
+
+/// The codes, and the order in which the memory holds them.
+const MIXED: [&str; 20] = [
+    "01,10,20,+5000,x1,101",
+    "31,125,30,-77,x4,000",
+    "02,24,42,+,x1,150",
+    "32,030,10,-,x4,160",
+    "11,30,+8388607,x1,170",
+    "21,2200,-9,x4,180",
+    "12,02,-,x1,190",
+    "22,0318,+,x4,000",
+    "03,10,20,+,05,210",
+    "05,15,25,-,0300,x4,220",
+    "57,1,-55,110",
+    "58,F3,1,120",
+    "60,130",
+    "61,300,140",
+    "62,150,000",
+    "63,S2,0,160,170",
+    "65,400,180",
+    "69",
+    "70,1,190",
+    "00,200",
+];
+
+/// The programs: a loop of five cells that never ends and never waits, a delay and a run.
+const PROGRAMS: [(usize, &str); 7] = [
+    (100, "61,65535,201"),
+    (101, "58,F0,1,202"),
+    (102, "63,F0,1,203,204"),
+    (103, "58,F0,0,204"),
+    (104, "62,201,200"),
+    (110, "65,65535,210"),
+    (120, "01,10,20,+8388607,x4,220"),
+];
+
+const NAMES: [&str; 12] = [
+    "wn", "qm", "qa", "inputs", "delay", "cell", "step", "refused", "halted", "order", "wait",
+    "long",
+];
+
+/// The sum that a benchmark writes, or all of them one after the other. `None` where there is no such benchmark.
+pub fn bench(name: &str, count: u32) -> Option<u32> {
+    let (idle, looping, delaying, moving) = ("00QA\r", "00PS,200\r", "00PS,210\r", "00PS,220\r");
+    Some(match name {
+        "wn" => strings(started(idle), "00WN,100,01,10,20,+5000,x1,101\r", count),
+        "qm" => strings(started(idle), "00QM,100\r", count),
+        "qa" => strings(started(idle), "00QA\r", count),
+        "inputs" => events(started(idle), count, |drive, k| drive.inputs(k % 8)),
+        "delay" => events(started(delaying), count, |drive, _| drive.millisecond()),
+        "cell" => events(started(looping), count, |drive, _| drive.millisecond()),
+        "step" => events(started(moving), count, |drive, _| drive.step()),
+        "refused" => events(started(idle), count, |drive, _| drive.step()),
+        "halted" => events(started(idle), count, |drive, _| drive.halted()),
+        "order" => orders(started(moving), count),
+        "wait" => waits(started(looping), count),
+        "long" => waits(started(delaying), count),
+        "all" => NAMES.iter().try_fold(0, |sum, name| Some(added(sum, bench(name, count)?)))?,
+        _ => return None,
+    })
+}
+
+/// A full drive after a string and one millisecond.
+fn started(text: &str) -> Drive {
+    let mut drive = Drive::fresh(0).expect("01 takes address 0");
+    let mixed = (0..131).map(|place| (place, MIXED[place * 7 % 20]));
+    for (place, text) in mixed.chain(PROGRAMS) {
+        let fields: Vec<&[u8]> = text.split(',').map(str::as_bytes).collect();
+        drive.cells[place] = Cell::parse(&fields).expect("a cell of the benchmarks is sound");
+    }
+    let _ = drive.string(text.as_bytes(), &mut [0; 64]);
+    let _ = drive.millisecond();
+    drive
+}
+
+/// A string, whose eighth byte counts: of a WN or a QM that goes over ten cells.
+fn strings(mut drive: Drive, first: &str, count: u32) -> u32 {
+    let mut text = [b'.'; 32];
+    text[..first.len()].copy_from_slice(first.as_bytes());
+    let mut buffer = [0; 64];
+    let mut sum = 0;
+    for k in 0..count {
+        text[7] = b'0' + (k % 10) as u8;
+        let told = drive.string(&text[..first.len()], &mut buffer);
+        let length = told.ok().flatten().unwrap_or_default() as u32;
+        sum = added(sum, length * 256 + u32::from(buffer[10]));
+        black_box(&mut drive);
+    }
+    sum
+}
+
+type Done = Result<(), u8>;
+
+fn events(mut drive: Drive, count: u32, event: impl Fn(&mut Drive, u32) -> Done) -> u32 {
+    let mut sum = 0;
+    for k in 0..count {
+        let done = event(&mut drive, k);
+        sum = added(sum, seen(done.err(), &drive));
+        black_box(&mut drive);
+    }
+    sum
+}
+
+/// IN counts, so that no order is the one before it.
+fn orders(mut drive: Drive, count: u32) -> u32 {
+    let mut sum = 0;
+    for k in 0..count {
+        drive.presets.current = (k % 4) as u8;
+        sum = added(sum, order_seen(drive.order()));
+        black_box(&mut drive);
+    }
+    sum
+}
+
+fn order_seen(order: Result<Order, u8>) -> u32 {
+    match order {
+        Err(_) => 0,
+        Ok(Order::Stand { .. }) => 1,
+        Ok(Order::Slow { .. }) => 2,
+        Ok(Order::Run { hertz, remaining, current, .. }) => {
+            hertz.wrapping_add(remaining as u32).wrapping_add(current.into())
+        }
+    }
+}
+
+fn waits(mut drive: Drive, count: u32) -> u32 {
+    let mut sum = 0;
+    for _ in 0..count {
+        let waited = drive.wait(1_000_000);
+        sum = added(sum, waited.map_or(0, |(_, given)| given));
+        sum = added(sum, seen(waited.err(), &drive));
+        black_box(&mut drive);
+    }
+    sum
+}
+
+fn added(sum: u32, seen: u32) -> u32 {
+    ((u64::from(sum) * 31 + u64::from(seen)) % 1_000_003) as u32
+}
+
+/// What an event showed: its refusal and, of the drive after it, I0 and what a program changes.
+fn seen(refusal: Option<u8>, drive: &Drive) -> u32 {
+    let running = &drive.running;
+    let shown = u32::from(refusal.unwrap_or(0)) + u32::from(drive.inputs.i[0]);
+    let place = u32::from(running.cell) + u32::from(running.loop_count);
+    (shown + place).wrapping_add(running.remaining.number() as u32)
+}
