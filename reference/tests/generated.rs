@@ -1,7 +1,7 @@
 //! What holds of every call, over thousands of generated scripts; and, in `coverage`, that the
 //! scripts reach what they are made to reach.
 
-#[path = "generated/coverage.rs"]
+#[path = "common/coverage.rs"]
 mod coverage;
 #[path = "common/rebuild.rs"]
 mod rebuild;
@@ -14,7 +14,59 @@ use reference::memory::{Drive, Phase, Remaining};
 use reference::reading::requests;
 use reference::replay::replay;
 use reference::wait::End;
-use scripts::{scripts, walk, Call, CALLS, SCRIPTS};
+use scripts::{calls, walk, Call};
+use std::sync::OnceLock;
+
+const SCRIPTS: u64 = 2_000;
+const CALLS: usize = 300;
+
+/// The scripts that all tests look at, made once.
+fn made() -> &'static [String] {
+    static MADE: OnceLock<Vec<String>> = OnceLock::new();
+    MADE.get_or_init(|| (0..SCRIPTS).map(|seed| script(seed, CALLS)).collect())
+}
+
+/// The same, taken apart once.
+fn generated() -> &'static [Vec<Call>] {
+    static PARSED: OnceLock<Vec<Vec<Call>>> = OnceLock::new();
+    PARSED.get_or_init(|| made().iter().map(|script| calls(script)).collect())
+}
+
+// A worse generator fails here.
+#[test]
+fn every_phase_of_every_code_occurs() {
+    coverage::phases(generated(), 1_000);
+}
+
+#[test]
+fn every_raw_write_makes_sound_records_and_others() {
+    coverage::raw_writes(generated(), 10);
+}
+
+#[test]
+fn every_event_meets_every_phase_of_every_code() {
+    coverage::events_in_phases(generated(), 3);
+}
+
+#[test]
+fn every_refusal_of_every_operation_occurs() {
+    coverage::refusals(generated(), 20);
+}
+
+#[test]
+fn every_command_and_request_is_accepted_and_rejected() {
+    coverage::commands(generated(), 30);
+}
+
+#[test]
+fn every_instruction_and_preset_is_accepted_and_rejected() {
+    coverage::instructions_and_presets(generated(), 20);
+}
+
+#[test]
+fn every_rare_happening_occurs() {
+    coverage::happenings(generated(), 5);
+}
 
 #[test]
 fn a_seed_gives_one_script_that_begins_with_an_accepted_f() {
@@ -32,8 +84,8 @@ fn a_seed_gives_one_script_that_begins_with_an_accepted_f() {
 
 #[test]
 fn every_script_replays_with_one_line_to_a_call() {
-    for made in scripts() {
-        let observations = replay(made).expect("a well-formed script");
+    for script in made() {
+        let observations = replay(script).expect("a well-formed script");
         assert_eq!(observations.lines().count(), CALLS);
         assert!(observations.lines().all(|line| line.split(' ').count() == 7));
     }
@@ -42,7 +94,7 @@ fn every_script_replays_with_one_line_to_a_call() {
 // 01, "What a drive holds": soundness is kept by every event.
 #[test]
 fn every_accepted_call_keeps_a_sound_drive_sound() {
-    walk(|moment| {
+    walk(generated(), |moment| {
         if moment.before.sound() && !matches!(moment.call, Call::Raw(_)) {
             assert!(moment.after.sound(), "{:?} on {:?}", moment.call, moment.before);
         }
@@ -52,7 +104,7 @@ fn every_accepted_call_keeps_a_sound_drive_sound() {
 // 01: "Every refusal hands back its number, the drive as it came, and untouched buffers."
 #[test]
 fn a_refusal_changes_neither_drive_nor_buffer() {
-    walk(|moment| {
+    walk(generated(), |moment| {
         let sound = moment.before.sound();
         let needs_a_sound_drive =
             !matches!(moment.call, Call::Fresh(_) | Call::Rounding(_) | Call::Raw(_));
@@ -69,7 +121,7 @@ fn a_refusal_changes_neither_drive_nor_buffer() {
 // answer."
 #[test]
 fn a_buffer_keeps_every_byte_behind_the_answer() {
-    walk(|moment| {
+    walk(generated(), |moment| {
         if let Call::String { bytes, length, fill } = moment.call {
             let answer = moment.seen.answer.unwrap_or(0);
             assert_eq!(moment.seen.buffer.len(), *length);
@@ -86,7 +138,7 @@ fn a_buffer_keeps_every_byte_behind_the_answer() {
 // run is under way"
 #[test]
 fn an_idle_drive_keeps_nothing_of_a_program() {
-    walk(|moment| {
+    walk(generated(), |moment| {
         let running = moment.after.running;
         if moment.after.sound() && moment.after.idle() {
             assert_eq!((running.cell, running.phase), (0, Phase::Waiting));
@@ -100,7 +152,7 @@ fn an_idle_drive_keeps_nothing_of_a_program() {
 /// Shows one in so many of the drives that are sound and idle.
 fn idle_drives(every: usize, mut visit: impl FnMut(usize, &Drive)) {
     let mut seen = 0;
-    walk(|moment| {
+    walk(generated(), |moment| {
         if moment.after.idle() && moment.after.sound() {
             seen += 1;
             if seen % every == 0 {
@@ -168,7 +220,7 @@ fn shuffled(seed: u64) -> impl Iterator<Item = usize> {
 // many."
 #[test]
 fn a_wait_is_its_milliseconds_one_by_one() {
-    walk(|moment| {
+    walk(generated(), |moment| {
         if let (Call::Wait(budget), Some(wait)) = (moment.call, moment.seen.wait) {
             let mut drive = *moment.before;
             assert_eq!(by_milliseconds(&mut drive, *budget), wait);

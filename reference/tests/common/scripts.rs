@@ -1,27 +1,9 @@
-//! Generated scripts taken apart: each line as a call, and what was seen of it on a drive.
+//! Scripts taken apart: each line as a call, and what was seen of it on a drive.
 
 use reference::frequency::round_frequency;
-use reference::generate::script;
 use reference::memory::Drive;
 use reference::raw;
 use reference::wait::End;
-use std::sync::OnceLock;
-
-pub const SCRIPTS: u64 = 2_000;
-pub const CALLS: usize = 300;
-
-/// The scripts that all tests look at, made once.
-pub fn scripts() -> &'static [String] {
-    static MADE: OnceLock<Vec<String>> = OnceLock::new();
-    MADE.get_or_init(|| (0..SCRIPTS).map(|seed| script(seed, CALLS)).collect())
-}
-
-/// The calls of all scripts, taken apart once.
-fn calls() -> &'static [Vec<Call>] {
-    static PARSED: OnceLock<Vec<Vec<Call>>> = OnceLock::new();
-    let parsed = || scripts().iter().map(|script| script.lines().map(parse).collect()).collect();
-    PARSED.get_or_init(parsed)
-}
 
 #[derive(Clone, Debug, PartialEq)]
 pub enum Call {
@@ -56,10 +38,10 @@ pub struct Moment<'a> {
     pub seen: &'a Seen,
 }
 
-/// Shows every call of every script. The first call of a script stands on a fresh drive of address
+/// Shows every call of some scripts. The first call of a script stands on a fresh drive of address
 /// 0.
-pub fn walk(mut visit: impl FnMut(Moment)) {
-    for script in calls() {
+pub fn walk(scripts: &[Vec<Call>], mut visit: impl FnMut(Moment)) {
+    for script in scripts {
         let mut drive = Drive::fresh(0).expect("01 takes address 0");
         for call in script {
             let before = drive;
@@ -67,6 +49,11 @@ pub fn walk(mut visit: impl FnMut(Moment)) {
             visit(Moment { call, before: &before, after: &drive, seen: &seen });
         }
     }
+}
+
+/// The calls of a script.
+pub fn calls(script: &str) -> Vec<Call> {
+    script.lines().filter(|line| !line.starts_with('#')).map(parse).collect()
 }
 
 fn parse(line: &str) -> Call {

@@ -1,6 +1,5 @@
-//! The scripts reach every phase of every code by every event, every refusal of every operation,
-//! both answers to every command and request, and the rare happenings. A worse generator fails
-//! here.
+//! Scripts reach every phase of every code by every event, every refusal of every operation, both
+//! answers to every command and request, and the rare happenings, each at least so many times.
 
 use crate::scripts::{walk, Call, Moment};
 use reference::instruction::Instruction;
@@ -92,45 +91,44 @@ fn code(instruction: Instruction) -> &'static str {
     }
 }
 
-#[test]
-fn every_phase_of_every_code_occurs() {
+pub fn phases(scripts: &[Vec<Call>], least: usize) {
     let mut counts = Counts::new();
-    walk(|moment| {
+    walk(scripts, |moment| {
         if moment.after.sound() && moment.seen.refusal.is_none() {
             pair(moment.after).into_iter().for_each(|pair| count(&mut counts, pair));
         }
     });
     assert_eq!(pairs().len(), 42);
-    all_counted(&counts, &pairs(), 1_000);
+    all_counted(&counts, &pairs(), least);
 }
 
 const FIELDS: &str =
     "ad in rs es cm pos inp camset campos errcode errcell reccell recrest recloop \
                       cell phase rest loop mark out";
 
-/// The field that a raw write names, and the code of a cell.
-fn raw_name(words: &[&str]) -> String {
+/// The field that a raw write names, or the code of a cell; nothing for a code that there isn't.
+fn raw_name(words: &[&str]) -> Option<String> {
     if FIELDS.split_whitespace().any(|field| field == words[0]) {
-        return words[0].to_string();
+        return Some(words[0].to_string());
     }
-    format!("code {}", words[1])
+    let known = CODES.iter().any(|code| code.parse::<u8>() == words[1].parse());
+    known.then(|| format!("code {}", words[1]))
 }
 
-#[test]
-fn every_raw_write_makes_sound_records_and_others() {
+pub fn raw_writes(scripts: &[Vec<Call>], least: usize) {
     let mut counts = Counts::new();
-    walk(|moment| {
+    walk(scripts, |moment| {
         let Call::Raw(words) = moment.call else { return };
         let words: Vec<&str> = words.iter().map(String::as_str).collect();
         let written = raw::write(moment.before, &words).expect("a well-formed raw write");
         let outcome = if written.is_some_and(|drive| drive.sound()) { "sound" } else { "not" };
-        count(&mut counts, format!("{} {outcome}", raw_name(&words)));
+        let name = raw_name(&words);
+        name.iter().for_each(|name| count(&mut counts, format!("{name} {outcome}")));
     });
     let codes = CODES.iter().map(|code| format!("code {}", code.parse::<u8>().unwrap()));
     let names = FIELDS.split_whitespace().map(str::to_string).chain(codes);
     let keys = names.flat_map(|name| [format!("{name} sound"), format!("{name} not")]);
-    counts.remove("code 4 not");
-    all_counted(&counts, &keys.collect::<Vec<_>>(), 10);
+    all_counted(&counts, &keys.collect::<Vec<_>>(), least);
 }
 
 const EVENTS: [&str; 12] = [
@@ -176,24 +174,22 @@ fn events(moment: &Moment) -> Vec<&'static str> {
     }
 }
 
-#[test]
-fn every_event_meets_every_phase_of_every_code() {
+pub fn events_in_phases(scripts: &[Vec<Call>], least: usize) {
     let mut counts = Counts::new();
-    walk(|moment| {
+    walk(scripts, |moment| {
         let Some(pair) = pair(moment.before).filter(|_| moment.before.sound()) else { return };
         let events = events(&moment);
         events.iter().for_each(|event| count(&mut counts, format!("{pair} {event}")));
     });
     let keys: Vec<String> =
         pairs().iter().flat_map(|pair| EVENTS.map(|event| format!("{pair} {event}"))).collect();
-    all_counted(&counts, &keys, 3);
+    all_counted(&counts, &keys, least);
 }
 
 // 01, "By operation": which refusals each operation has.
-#[test]
-fn every_refusal_of_every_operation_occurs() {
+pub fn refusals(scripts: &[Vec<Call>], least: usize) {
     let mut counts = Counts::new();
-    walk(|moment| {
+    walk(scripts, |moment| {
         if let Some(refusal) = moment.seen.refusal {
             count(&mut counts, format!("{} {refusal}", operation(moment.call)));
         }
@@ -217,7 +213,7 @@ fn every_refusal_of_every_operation_occurs() {
         "wait 8",
         "reading 2",
     ];
-    all_counted(&counts, &refusals.map(str::to_string), 20);
+    all_counted(&counts, &refusals.map(str::to_string), least);
 }
 
 fn operation(call: &Call) -> &'static str {
@@ -247,12 +243,11 @@ fn reply(moment: &Moment) -> &'static str {
     }
 }
 
-#[test]
-fn every_command_and_request_is_accepted_and_rejected() {
+pub fn commands(scripts: &[Vec<Call>], least: usize) {
     let commands = ["WN", "WS", "PS", "EE", "ES", "SA", "SO", "SC"];
     let requests = ["QA", "QS", "QI", "QO", "QM", "QC", "QE", "QR"];
     let mut counts = Counts::new();
-    walk(|moment| {
+    walk(scripts, |moment| {
         let Call::String { bytes, .. } = moment.call else { return };
         let code = bytes
             .get(2..4)
@@ -271,7 +266,7 @@ fn every_command_and_request_is_accepted_and_rejected() {
         .iter()
         .chain(&requests)
         .flat_map(|code| [format!("{code} N"), format!("{code} silent")]);
-    all_counted(&counts, &accepted.chain(others).collect::<Vec<_>>(), 30);
+    all_counted(&counts, &accepted.chain(others).collect::<Vec<_>>(), least);
 }
 
 /// The first fields of a string to the drive's own address.
@@ -285,10 +280,9 @@ fn fields(moment: &Moment) -> Vec<String> {
         .unwrap_or_default()
 }
 
-#[test]
-fn every_instruction_and_preset_is_accepted_and_rejected() {
+pub fn instructions_and_presets(scripts: &[Vec<Call>], least: usize) {
     let mut counts = Counts::new();
-    walk(|moment| {
+    walk(scripts, |moment| {
         let fields = fields(&moment);
         let names: Vec<&str> = fields.iter().map(String::as_str).collect();
         match names.as_slice() {
@@ -309,7 +303,7 @@ fn every_instruction_and_preset_is_accepted_and_rejected() {
     let presets = PRESETS.iter().flat_map(|name| {
         [format!("WS {name} Y"), format!("WS {name} N"), format!("QS {name} answered")]
     });
-    all_counted(&counts, &cells.chain(presets).collect::<Vec<_>>(), 20);
+    all_counted(&counts, &cells.chain(presets).collect::<Vec<_>>(), least);
 }
 
 const PRESETS: [&str; 5] = ["AD", "IN", "RS", "ES", "CM"];
@@ -452,15 +446,14 @@ fn started(m: &Moment) -> bool {
     edge(m) && m.before.idle() && !m.after.idle()
 }
 
-#[test]
-fn every_rare_happening_occurs() {
+pub fn happenings(scripts: &[Vec<Call>], least: usize) {
     let mut counts = Counts::new();
-    walk(|moment| {
+    walk(scripts, |moment| {
         if !moment.before.sound() || matches!(moment.call, Call::Raw(_) | Call::Fresh(_)) {
             return;
         }
         let happened = HAPPENINGS.iter().filter(|(_, known)| known(&moment));
         happened.for_each(|(name, _)| count(&mut counts, name));
     });
-    all_counted(&counts, &HAPPENINGS.map(|(name, _)| name.to_string()), 5);
+    all_counted(&counts, &HAPPENINGS.map(|(name, _)| name.to_string()), least);
 }

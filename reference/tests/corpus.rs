@@ -1,0 +1,55 @@
+//! The script that the program `replay` is run on covers by itself what the generated scripts cover,
+//! each thing at least once.
+
+#[path = "common/coverage.rs"]
+mod coverage;
+#[path = "common/scripts.rs"]
+mod scripts;
+
+use scripts::{calls, Call};
+
+const SCRIPT: &str = include_str!("../../crates/replay/stdin");
+
+fn corpus() -> [Vec<Call>; 1] {
+    [calls(SCRIPT)]
+}
+
+#[test]
+fn it_has_20_000_calls_or_more() {
+    assert!(corpus()[0].len() >= 20_000);
+}
+
+#[test]
+fn every_phase_of_every_code_occurs() {
+    coverage::phases(&corpus(), 1);
+}
+
+#[test]
+fn every_raw_write_makes_sound_records_and_others() {
+    coverage::raw_writes(&corpus(), 1);
+}
+
+#[test]
+fn every_event_meets_every_phase_of_every_code() {
+    coverage::events_in_phases(&corpus(), 1);
+}
+
+#[test]
+fn every_refusal_of_every_operation_occurs() {
+    coverage::refusals(&corpus(), 1);
+}
+
+#[test]
+fn every_command_and_request_is_accepted_and_rejected() {
+    coverage::commands(&corpus(), 1);
+}
+
+#[test]
+fn every_instruction_and_preset_is_accepted_and_rejected() {
+    coverage::instructions_and_presets(&corpus(), 1);
+}
+
+#[test]
+fn every_rare_happening_occurs() {
+    coverage::happenings(&corpus(), 1);
+}
