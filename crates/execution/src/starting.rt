@@ -4,6 +4,7 @@ ghost use Rattle.machine.specs.Record.{atRest, idle as idleOf, moving as moving
 ghost use Rattle.machine.specs.Record.{stopped as stoppedOf};
 ghost use Rattle.machine.specs.Starting.{waitingAt, started as startedOf, advanced as advancedOf};
 ghost use Rattle.machine.specs.Starting.{failed as failedOf, inPhase, entered as enteredOf};
+ghost use Rattle.execution.specs.Passing.{passedTo};
 use machine::Fault;
 use machine::Phase;
 use machine::Remaining;
@@ -57,14 +58,21 @@ pub fn started(mut state: State, at: CellAddress) -> State
     state
 }
 
+// The running part after a cell is passed: at the next cell, or at rest where that is 000.
+pub fn passed(next: CellAddress, loops: u16) -> Running
+    ensures { λ r. ⌜ r ≡ passedTo next loops ⌝ }
+{
+    if next.0 == 0 {
+        return at_rest();
+    }
+    waiting_at(next, loops)
+}
+
 // Goes on to the next cell, or ends at 000.
 pub fn advanced(mut state: State, next: CellAddress) -> State
     ensures { λ r. ⌜ r ≡ advancedOf state next ⌝ }
 {
-    if next.0 == 0 {
-        return stopped(state);
-    }
-    let running = waiting_at(next, state.running.loops);
+    let running = passed(next, state.running.loops);
     state.running = running;
     state
 }

@@ -6,6 +6,8 @@ ghost use Rattle.machine.specs.Soundness.{sound};
 ghost use Rattle.machine.specs.Waiting.{wait as waitOf};
 ghost use Rattle.execution.specs.Waiting.{delayLeft, ranOf};
 use crate::milliseconds::millisecond;
+use crate::passing::Change;
+use crate::passing::due;
 use crate::starting::idle;
 use crate::starting::in_phase;
 use crate::starting::moving;
@@ -52,11 +54,24 @@ pub fn wait(cells: [Cell; 131], state: State, budget: Milliseconds) -> Ran
             continue;
         }
         let i = d.running.cell.place();
-        let k = d.suspended.cell.place();
         let cell = cells[i];
-        let held = cells[k];
-        d = millisecond(d, cell, held);
+        let change = due(d, cell);
         n += 1;
+        match change {
+            Change::Running(running) => {
+                d.running = running;
+            }
+            Change::Output(output, on, running) => {
+                let p = output as usize;
+                d.outputs[p] = on;
+                d.running = running;
+            }
+            Change::More => {
+                let k = d.suspended.cell.place();
+                let held = cells[k];
+                d = millisecond(d, cell, held);
+            }
+        }
     }
 }
 

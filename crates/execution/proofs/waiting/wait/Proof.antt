@@ -7,6 +7,7 @@ use native.Mathlib.Omega.{arith}
 use mathlib.Core.Path.{_≡_, sym, _∙_}
 use lib.ListN.{length}
 use borrow.Author.Needs.{needs}
+use Rattle.execution.proofs.Changes.{changed-known, place-known}
 use Rattle.execution.proofs.Waits.{place-cell, place-present, ran-idle, ran-moving, ran-spent, Waiting}
 use Rattle.execution.proofs.Waits.{waiting-start, waiting-step, waiting-skip, present-place, held-place, place-sound}
 use Rattle.execution.proofs.waiting.wait.Statement.{statement}
@@ -45,18 +46,20 @@ ended-requires-2 c κs = search needs
 
 returns-2 : tie.Need-returns-2 Inv-loop μ-loop
 returns-2 c =
-    let i = sym (c .before .before .before .before .idle .ensures) ∙ c .before .before .before .if1 .left in
+    let b = c .before .before .before .before in
+    let i = sym (b .idle .ensures) ∙ c .before .before .before .if1 .left in
     let m = sym (c .before .before .moving .ensures) ∙ c .before .if2 .taken in
-    c .ended2 .ensures ∙ ran-moving _ _ _ _ i m ∙ c .before .before .before .before .before .loop .inv .rest
+    c .ended2 .ensures ∙ ran-moving _ _ _ _ i m ∙ b .before .loop .inv .rest
 
 ended-requires-3 : tie.Need-ended-requires-3 Inv-loop μ-loop
 ended-requires-3 c κs = search needs
 
 returns-3 : tie.Need-returns-3 Inv-loop μ-loop
 returns-3 c =
-    let i = sym (c .before .before .before .before .before .idle .ensures) ∙ c .before .before .before .before .if1 .left in
+    let b = c .before .before .before .before in
+    let i = sym (b .before .idle .ensures) ∙ b .if1 .left in
     let m = sym (c .before .before .before .moving .ensures) ∙ c .before .before .if2 .left in
-    c .ended3 .ensures ∙ ran-spent _ _ _ _ (omega arith) i m ∙ c .before .before .before .before .before .before .loop .inv .rest
+    c .ended3 .ensures ∙ ran-spent _ _ _ _ (omega arith) i m ∙ b .before .before .loop .inv .rest
 
 delay-left-requires : tie.Need-delay-left-requires Inv-loop μ-loop
 delay-left-requires c κs = search needs
@@ -65,7 +68,7 @@ sub-lesser : tie.Need-sub-lesser Inv-loop μ-loop
 sub-lesser c = omega arith
 
 sub-lesser-2 : tie.Need-sub-lesser-2 Inv-loop μ-loop
-sub-lesser-2 c = omega (arith, c .before .before .before .before .before .before .before .loop .inv .within)
+sub-lesser-2 c = omega (arith, c .before .before .before .before .before .before .before .before .loop .inv .within)
 
 lesser-requires : tie.Need-lesser-requires Inv-loop μ-loop
 lesser-requires c κs = search needs
@@ -78,7 +81,7 @@ in-phase-requires c κs = search needs
 
 add-n : tie.Need-add-n Inv-loop μ-loop
 add-n c =
-    let w = c .before .before .before .before .before .before .before .before .before .loop .inv in
+    let w = c .before .before .before .before .before .before .before .before .before .before .loop .inv in
     omega (arith, w .fits, w .within, c .before .lesser .ensures)
 
 loop-less : tie.Need-loop-less Inv-loop μ-loop
@@ -86,49 +89,32 @@ loop-less c = omega (arith, c .before .lesser .ensures)
 
 loop-again : tie.Need-loop-again Inv-loop μ-loop
 loop-again c =
-    let b = c .before .before .before .before .before in
+    let b = c .before .before .before .before .before .before in
     let i = sym (b .before .before .before .idle .ensures) ∙ b .before .before .if1 .left in
     let m = sym (b .before .moving .ensures) ∙ b .if2 .left in
-    let k = c .before .before .before .delay-left .ensures in
     let w = b .before .before .before .before .loop .inv in
     let g = c .before .lesser .ensures in
-    waiting-skip w i m k (omega (arith, g)) (omega (arith, g, w .within)) (c .in-phase .ensures)
+    waiting-skip w i m (c .before .before .before .delay-left .ensures) (omega (arith, g)) (omega (arith, g, w .within)) (c .in-phase .ensures)
 
 place-requires : tie.Need-place-requires Inv-loop μ-loop
 place-requires c κs = search needs
 
-place-requires-2 : tie.Need-place-requires-2 Inv-loop μ-loop
-place-requires-2 c κs = search needs
-
 mul-cell : tie.Need-mul-cell Inv-loop μ-loop
 mul-cell c =
-    let b = c .before .before .before .before .before .before .before in
-    let i = sym (b .before .idle .ensures) ∙ b .if1 .left in
-    omega (arith, present-place (b .before .before .loop .inv) i (c .before .place .ensures))
+    let b = c .before .before .before .before .before .before .before .before in
+    omega (arith, present-place (b .before .before .loop .inv) (sym (b .before .idle .ensures) ∙ b .if1 .left) (c .place .ensures))
 
 array-copy-out-cell : tie.Need-array-copy-out-cell Inv-loop μ-loop
 array-copy-out-cell c =
-    let b = c .before .before .before .before .before .before .before in
-    let i = sym (b .before .idle .ensures) ∙ b .if1 .left in
-    present-place (b .before .before .loop .inv) i (c .before .place .ensures)
+    let b = c .before .before .before .before .before .before .before .before in
+    present-place (b .before .before .loop .inv) (sym (b .before .idle .ensures) ∙ b .if1 .left) (c .place .ensures)
 
-mul-held : tie.Need-mul-held Inv-loop μ-loop
-mul-held c =
-    let w = c .before .before .before .before .before .before .before .before .before .before .loop .inv in
-    omega (arith, held-place w (c .before .place2 .ensures))
-
-array-copy-out-held : tie.Need-array-copy-out-held Inv-loop μ-loop
-array-copy-out-held c =
-    let w = c .before .before .before .before .before .before .before .before .before .before .loop .inv in
-    held-place w (c .before .place2 .ensures)
-
-millisecond-requires : tie.Need-millisecond-requires Inv-loop μ-loop
-millisecond-requires c κs =
+due-requires : tie.Need-due-requires Inv-loop μ-loop
+due-requires c κs =
     let b = c .before .before .before .before .before .before .before .before .before in
     let w = b .before .before .loop .inv in
     let i = sym (b .before .idle .ensures) ∙ b .if1 .left in
-    let p = present-place w i (c .before .before .before .place .ensures) in
-    (place-sound w p, place-sound w (held-place w (c .before .before .place2 .ensures)))
+    (i, place-sound w (present-place w i (c .before .place .ensures)))
 
 add-n-2 : tie.Need-add-n-2 Inv-loop μ-loop
 add-n-2 c =
@@ -136,21 +122,89 @@ add-n-2 c =
     let w = b .before .before .before .before .before .loop .inv in
     omega (arith, w .fits, w .within, b .if3 .left)
 
+enum-known-change : tie.Need-enum-known-change Inv-loop μ-loop
+enum-known-change c = search needs
+
 loop-less-2 : tie.Need-loop-less-2 Inv-loop μ-loop
 loop-less-2 c =
-    let b = c .before .before .before .before .before .before .before in
+    let b = c .before .before .before .before .before .before .before .before .before .before in
     omega (arith, b .before .before .before .before .before .loop .inv .within, b .if3 .left)
 
 loop-again-2 : tie.Need-loop-again-2 Inv-loop μ-loop
 loop-again-2 c =
-    let b = c .before .before .before .before .before .before .before in
+    let b = c .before .before .before .before .before .before .before .before .before .before in
     let l = b .before .before .before .before .before .loop in
     let a = b .before .before .before .before .before .before .args in
     let h : l .n < a .budget .0 = omega (arith, l .inv .within, b .if3 .left) in
     let i = sym (b .before .before .before .before .idle .ensures) ∙ b .before .before .before .if1 .left in
     let m = sym (b .before .before .moving .ensures) ∙ b .before .if2 .left in
-    let p = place-present (a .t1) (l .d) (c .before .before .before .before .place .ensures) in
-    let k = place-cell (a .t1) (l .d .suspended .cell) (c .before .before .before .place2 .ensures) in
+    let p = place-present (a .t1) (l .d) (c .before .before .before .before .before .place .ensures) in
+    waiting-step (l .inv) h i m (changed-known _ (l .d) (c .before .change .given .1) (c .before .before .before .due .ensures .0 (a .t1) p))
+
+enum-known-change-2 : tie.Need-enum-known-change-2 Inv-loop μ-loop
+enum-known-change-2 c = search needs
+
+cast-p : tie.Need-cast-p Inv-loop μ-loop
+cast-p c = search needs
+
+element-write-d : tie.Need-element-write-d Inv-loop μ-loop
+element-write-d c =
+    let l = c .before .before .before .before .before .before .before .before .before .before .before .before .before .before .before .loop in
+    let o : length (l .d .outputs) ≡ 14 = l .inv .parts .outputs in
+    omega (arith, o, place-known _ (c .before .change2 .given .1) (c .before .before .before .due .ensures .1))
+
+loop-less-3 : tie.Need-loop-less-3 Inv-loop μ-loop
+loop-less-3 c =
+    let b = c .before .before .before .before .before .before .before .before .before .before in
+    omega (arith, b .before .before .before .before .before .loop .inv .within, b .if3 .left)
+
+loop-again-3 : tie.Need-loop-again-3 Inv-loop μ-loop
+loop-again-3 c =
+    let b = c .before .before .before .before .before .before .before .before .before .before in
+    let l = b .before .before .before .before .before .loop in
+    let a = b .before .before .before .before .before .before .args in
+    let h : l .n < a .budget .0 = omega (arith, l .inv .within, b .if3 .left) in
+    let i = sym (b .before .before .before .before .idle .ensures) ∙ b .before .before .before .if1 .left in
+    let m = sym (b .before .before .moving .ensures) ∙ b .before .if2 .left in
+    let p = place-present (a .t1) (l .d) (c .before .before .before .before .before .place .ensures) in
+    waiting-step (l .inv) h i m (changed-known _ (l .d) (c .before .change2 .given .1) (c .before .before .before .due .ensures .0 (a .t1) p))
+
+enum-told : tie.Need-enum-told Inv-loop μ-loop
+enum-told c = search needs
+
+place-requires-2 : tie.Need-place-requires-2 Inv-loop μ-loop
+place-requires-2 c κs = search needs
+
+mul-held : tie.Need-mul-held Inv-loop μ-loop
+mul-held c =
+    omega (arith, held-place (c .before .before .before .before .before .before .before .before .before .before .before .before .before .before .before .before .loop .inv) (c .place2 .ensures))
+
+array-copy-out-held : tie.Need-array-copy-out-held Inv-loop μ-loop
+array-copy-out-held c =
+    held-place (c .before .before .before .before .before .before .before .before .before .before .before .before .before .before .before .before .loop .inv) (c .place2 .ensures)
+
+millisecond-requires : tie.Need-millisecond-requires Inv-loop μ-loop
+millisecond-requires c κs =
+    let b = c .before .before .before .before .before .before .before .before .before .before .before .before .before .before .before in
+    let w = b .before .before .loop .inv in
+    let p = present-place w (sym (b .before .idle .ensures) ∙ b .if1 .left) (c .before .before .before .before .before .before .before .place .ensures) in
+    (place-sound w p, place-sound w (held-place w (c .before .place2 .ensures)))
+
+loop-less-4 : tie.Need-loop-less-4 Inv-loop μ-loop
+loop-less-4 c =
+    let b = c .before .before .before .before .before .before .before .before .before .before .before .before .before in
+    omega (arith, b .before .before .before .before .before .loop .inv .within, b .if3 .left)
+
+loop-again-4 : tie.Need-loop-again-4 Inv-loop μ-loop
+loop-again-4 c =
+    let b = c .before .before .before .before .before .before .before .before .before .before .before .before .before in
+    let l = b .before .before .before .before .before .loop in
+    let a = b .before .before .before .before .before .before .args in
+    let h : l .n < a .budget .0 = omega (arith, l .inv .within, b .if3 .left) in
+    let i = sym (b .before .before .before .before .idle .ensures) ∙ b .before .before .before .if1 .left in
+    let m = sym (b .before .before .moving .ensures) ∙ b .before .if2 .left in
+    let p = place-present (a .t1) (l .d) (c .before .before .before .before .before .before .before .before .place .ensures) in
+    let k = place-cell (a .t1) (l .d .suspended .cell) (c .before .before .place2 .ensures) in
     waiting-step (l .inv) h i m (c .millisecond .ensures (a .t1) p k)
 
 pub wait-spec : {M : Type 1} → statement M
@@ -178,12 +232,22 @@ wait-spec =
     loop-less
     loop-again
     place-requires
-    place-requires-2
     mul-cell
     array-copy-out-cell
+    due-requires
+    add-n-2
+    enum-known-change
+    loop-less-2
+    loop-again-2
+    enum-known-change-2
+    cast-p
+    element-write-d
+    loop-less-3
+    loop-again-3
+    enum-told
+    place-requires-2
     mul-held
     array-copy-out-held
     millisecond-requires
-    add-n-2
-    loop-less-2
-    loop-again-2)
+    loop-less-4
+    loop-again-4)
