@@ -1,11 +1,11 @@
 -- What a sound cell says of the numbers that carrying it out uses.
 -- Assumes nothing.
-use Prim.Native.Nat.{ℕ, _*_, _≤_}
+use Prim.Native.Nat.{ℕ, _≤_}
 use native.Mathlib.Omega.{arith}
 use mathlib.Core.Path.{_≡_}
 use mathlib.Core.Bool.{true}
 use lib.Dec.{lit≤}
-use borrow.Author.Tests.{le-leb, leb-true}
+use borrow.Author.Tests.{leb-true}
 use Rattle.laws.specs.Tests.{choose}
 use Rattle.laws.proofs.Tests.{both-left, both-right}
 use Rattle.frequency.specs.Places.{hertzOf}
@@ -15,20 +15,14 @@ use Rattle.instruction.specs.Codes.{codeOf}
 use Rattle.instruction.specs.Formats.{fieldsOf, fieldsIn}
 use Rattle.instruction.specs.Numbers.{numbersWith}
 use Rattle.instruction.specs.Runs.{profileOf}
-use Rattle.instruction.specs.Soundness.{stepsWithin, cellSound}
+use Rattle.instruction.specs.Soundness.{cellSound}
 use Rattle.instruction.specs.declared.Cell.{Cell}
 use Rattle.instruction.specs.declared.Instruction.{Instruction}
 use Rattle.instruction.specs.declared.Instruction.the-variants.{Null, IndexedRamp, IndexedRampFine, FreeRamp, FreeRampFine}
 use Rattle.instruction.specs.declared.Instruction.the-variants.{Indexed, IndexedFine, Free, FreeFine, ZeroSearch, DelayedStop}
 use Rattle.instruction.specs.declared.Instruction.the-variants.{CamSetting, OutputSetting, CounterReset, OpeningLoop, ClosingLoop}
 use Rattle.instruction.specs.declared.Instruction.the-variants.{ConditionalJump, TimeDelay, Recovery, CurrentSetting}
-use Rattle.machine.proofs.Cells.{run-sound}
 use Rattle.events.specs.Bounds.{WithinHertz}
-
--- 01: "n is ±nnn within 8,388,607 each way"
-pub steps-within : (c : Cell) → cellSound c ≡ true → stepsWithin (profileOf (c .instruction) .steps) ≡ true
-unfolding stepsWithin
-steps-within c t = le-leb _ 8388607 (run-sound c t .small)
 
 hertz-in : (i : Instruction) (d : ℕ) → allValid (fieldsOf (codeOf i)) (numbersWith i d) ≡ true → profileOf i .hertz ≤ 24000
 unfolding allValid fieldsOf fieldsIn choose codeOf numbersWith profileOf valid

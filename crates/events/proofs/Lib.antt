@@ -1,8 +1,5 @@
--- Telling: a definition by cases at a value that is known to be one of them. Joins: a join of two tests of which one is known.
 -- Cells: what a sound cell says of its numbers. Braking: the steps of a 05 after its stop fit. Bits: the bits of a word, stored one by one.
 -- Words: an inputs word needs only the cell that was present before it.
-mod Telling
-mod Joins
 mod Cells
 mod Braking
 mod Bits

@@ -3,7 +3,7 @@
 use Prim.Native.Nat.{ℕ, _<_}
 use mathlib.Core.Path.{_≡_}
 use mathlib.Core.Bool.{Bool, true}
-use borrow.Author.Tests.{ltb-true, le-leb}
+use borrow.Author.Tests.{ltb-true}
 use Rattle.laws.specs.Tests.{choose}
 use Rattle.laws.proofs.Tests.{both-left}
 use Rattle.fields.specs.Kinds.{valid}
@@ -12,19 +12,12 @@ use Rattle.fields.specs.Rows.{allValid}
 use Rattle.instruction.specs.Codes.{codeOf}
 use Rattle.instruction.specs.Formats.{fieldsOf, fieldsIn}
 use Rattle.instruction.specs.Numbers.{numbersWith}
-use Rattle.instruction.specs.Runs.{profileOf}
-use Rattle.instruction.specs.Soundness.{stepsWithin, cellSound}
+use Rattle.instruction.specs.Soundness.{cellSound}
 use Rattle.instruction.specs.declared.Cell.{Cell}
 use Rattle.instruction.specs.declared.ConditionName.{ConditionName}
 use Rattle.instruction.specs.declared.OutputName.{OutputName}
 use Rattle.instruction.specs.declared.Instruction.the-variants.{OutputSetting, ConditionalJump}
 use Rattle.units.specs.declared.CellAddress.{CellAddress}
-use Rattle.machine.proofs.Cells.{run-sound}
-
--- 01: "n is ±nnn within 8,388,607 each way"
-pub steps-within : (c : Cell) → cellSound c ≡ true → stepsWithin (profileOf (c .instruction) .steps) ≡ true
-unfolding stepsWithin
-steps-within c t = le-leb _ 8388607 (run-sound c t .small)
 
 output-valid :
     (o : OutputName) (v : Bool) (d : ℕ) →

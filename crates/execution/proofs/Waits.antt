@@ -5,47 +5,23 @@ use native.Mathlib.Omega.{arith}
 use mathlib.Core.Path.{_≡_, refl, sym, ap, subst, _∙_}
 use mathlib.Core.Bool.{Bool, true, false}
 use mathlib.Core.List.{List}
-use lib.Dec.{eqb}
-use lib.ListN.{length, getD}
-use borrow.Author.Tests.{eqb-true}
+use lib.ListN.{length}
 use Rattle.laws.specs.Tests.{either}
 use Rattle.laws.proofs.Tests.{both-left, both-right, choose-true, choose-false}
-use Rattle.laws.proofs.Tables.{every-at}
-use Rattle.units.specs.declared.CellAddress.{CellAddress}
-use Rattle.instruction.specs.Soundness.{cellSound}
 use Rattle.instruction.specs.declared.Cell.{Cell}
-use Rattle.machine.specs.Record.{cellAt, nullCell, idle, underWay, moving}
-use Rattle.machine.specs.Soundness.{suspendedSound, sound}
-use Rattle.machine.specs.Milliseconds.{present, millisecond}
+use Rattle.machine.specs.Record.{idle, underWay, moving}
+use Rattle.machine.specs.Soundness.{sound}
+use Rattle.machine.specs.Milliseconds.{millisecond}
 use Rattle.machine.specs.Waiting.{Waited, noMore, settled, endAt, waitFrom, wait}
 use Rattle.machine.specs.declared.State.{State}
-use Rattle.machine.specs.declared.Suspended.{Suspended}
 use Rattle.machine.specs.declared.answers.End.{End}
 use Rattle.machine.specs.declared.answers.End.the-variants as end
-use Rattle.machine.proofs.Cells.{cell-to, Memory}
-use Rattle.machine.proofs.Parts.{Parts, state-parts, running-busy}
+use Rattle.machine.proofs.Cells.{Memory}
+use Rattle.machine.proofs.Parts.{Parts, state-parts}
 use Rattle.machine.proofs.Milliseconds.{millisecond-sound}
 use Rattle.execution.specs.Waiting.{delayLeft, ranOf}
 use Rattle.execution.specs.declared.waiting.Ran.{Ran}
 use Rattle.execution.proofs.Delays.{delaying, in-delay, delay-step}
-
--- ---- the cells that a millisecond reads
-
--- the record's cell, or none
-suspended-to : (cells : List Cell) (r : Suspended) (b : Bool) → eqb (r .cell .0) 0 ≡ b → suspendedSound cells r ≡ true → r .cell .0 ≤ 230
-unfolding suspendedSound
-suspended-to cells r true t u = omega (arith, eqb-true (r .cell .0) 0 t)
-suspended-to cells r false t u = cell-to (r .cell) (both-left _ _ (sym (choose-false _ _ _ t) ∙ u))
-
--- the cell at a place of the memory
-pub place-cell : (cells : List Cell) (a : CellAddress) {k : ℕ} → k ≡ a .0 - 100 → cellAt cells a ≡ getD cells k nullCell
-unfolding cellAt
-place-cell cells a e = ap (λ (k : ℕ). getD cells k nullCell) (sym e)
-
--- the present cell, read at its place
-pub place-present : (cells : List Cell) (d : State) {k : ℕ} → k ≡ d .running .cell .0 - 100 → present cells d ≡ getD cells k nullCell
-unfolding present
-place-present cells d e = place-cell cells (d .running .cell) e
 
 -- ---- what is handed back
 
@@ -160,14 +136,3 @@ waiting-skip {cells} {limit} {s} {d} {r} {n} {k} {g} w t u e h l q =
     let f = in-delay (w .parts) t u (omega arith) in
     let v = subst (λ (x : State). Waiting cells limit s x n) (f ∙ ap (delaying d) (sym e)) w in
     rw q (waiting-delay d k t v g h l)
-
-module _ {cells : List Cell} {limit : ℕ} {s d : State} {n : ℕ} (w : Waiting cells limit s d n) where
-  -- the places of the cells that the next millisecond reads
-  pub present-place : {k : ℕ} → idle d ≡ false → k ≡ d .running .cell .0 - 100 → k < 131
-  present-place t e = omega (arith, cell-to (d .running .cell) (running-busy (w .parts) t .cell))
-
-  pub held-place : {k : ℕ} → k ≡ d .suspended .cell .0 - 100 → k < 131
-  held-place e = omega (arith, suspended-to cells (d .suspended) (eqb (d .suspended .cell .0) 0) refl (w .parts .suspended))
-
-  pub place-sound : {k : ℕ} → k < 131 → cellSound (getD cells k nullCell) ≡ true
-  place-sound h = every-at cellSound nullCell cells (w .memory .sound) _ (omega (arith, w .memory .count))

@@ -3,13 +3,13 @@
 use Prim.Native.Nat.{ℕ, _-_, _^_, _≤_, _<_}
 use native.Mathlib.Omega.{arith}
 use mathlib.Core.Path.{_≡_, refl, sym, _∙_}
-use mathlib.Core.Bool.{Bool, true, false}
+use mathlib.Core.Bool.{true}
 use mathlib.Core.Logic.{_⊎_, inl, inr, ⊎-elim}
 use lib.ListN.{length}
 use lib.Dec.{ltb, leb, eqb}
 use borrow.Author.Tests.{ltb-true, leb-true, eqb-true, lt-ltb, le-ltb, le-leb}
 use Rattle.laws.specs.Tests.{both, either}
-use Rattle.laws.proofs.Tests.{both-left, both-right, both-true, choose-true, choose-false}
+use Rattle.laws.proofs.Tests.{both-left, both-right, both-true, either-true-right, either-cases, choose-true, choose-false}
 use Rattle.fields.specs.Names.{listOf}
 use Rattle.fields.specs.Kinds.{goodSigned, good, validSigned, valid}
 use Rattle.fields.specs.declared.names.Names.{Names}
@@ -42,23 +42,13 @@ valid-between low high v t = (leb-true low v (both-left _ _ t), leb-true v high 
 pub between-valid : (low high v : ℕ) → low ≤ v → v ≤ high → both (leb low v) (leb v high) ≡ true
 between-valid low high v l h = both-true (le-leb low v l) (le-leb v high h)
 
-either-cases : (a b : Bool) → either a b ≡ true → (a ≡ true) ⊎ (b ≡ true)
-unfolding either
-either-cases true b t = inl refl
-either-cases false b t = inr t
-
-either-right : (a b : Bool) → b ≡ true → either a b ≡ true
-unfolding either
-either-right true b t = refl
-either-right false b t = t
-
 pub next-zero : valid Next 0 ≡ true
 unfolding valid either
 next-zero = refl
 
 pub next-valid : (v : ℕ) → 100 ≤ v → v ≤ 230 → valid Next v ≡ true
 unfolding valid
-next-valid v l h = either-right (eqb v 0) _ (between-valid 100 230 v l h)
+next-valid v l h = either-true-right (eqb v 0) _ (between-valid 100 230 v l h)
 
 pub valid-next : (v : ℕ) → valid Next v ≡ true → (v ≡ 0) ⊎ ((100 ≤ v) × (v ≤ 230))
 unfolding valid

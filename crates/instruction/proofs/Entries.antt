@@ -2,23 +2,19 @@
 -- Assumes nothing.
 use Prim.Native.Nat.{ℕ, _≤_}
 use mathlib.Core.Path.{_≡_, refl, ap, _∙_}
-use mathlib.Core.Bool.{Bool, true, false}
+use mathlib.Core.Bool.{Bool, true}
 use mathlib.Core.List.{List, [], _∷_}
+use mathlib.Core.Logic.{⊎-elim}
 use lib.Dec.{eqb, leb}
 use lib.ListN.{length}
 use borrow.Author.Tests.{eqb-true, leb-true}
-use Rattle.laws.specs.Tests.{both, either}
+use Rattle.laws.specs.Tests.{both}
 use Rattle.laws.specs.Tables.{every}
-use Rattle.laws.proofs.Tests.{both-left, both-right, choose-by}
+use Rattle.laws.proofs.Tests.{both-left, both-right, either-cases, choose-by}
 use Rattle.fields.specs.Kinds.{good, goodSigned}
 use Rattle.fields.specs.Rows.{allGood}
 use Rattle.fields.specs.declared.kinds.Kind.{Kind}
 use Rattle.instruction.specs.Formats.{Entry, formats, fieldsIn, fieldsOf, knownIn, known}
-
-either-by : {A : Type 0} (a b : Bool) → either a b ≡ true → (a ≡ true → A) → (b ≡ true → A) → A
-unfolding either
-either-by true b t f g = f refl
-either-by false b t f g = g t
 
 -- what holds of each entry's fields, and of none, holds of every code's fields
 fieldsIn-by : (f : List Kind → Bool) (es : List Entry) (code : ℕ) → f [] ≡ true → every (λ (e : Entry). f (e .fields)) es ≡ true →
@@ -51,7 +47,8 @@ knownIn-by : (f : ℕ → Bool) (es : List Entry) (code : ℕ) → every (λ (e 
 unfolding knownIn every
 knownIn-by f [] code t h = cc
 knownIn-by f (e ∷ es) code t h =
-    either-by (eqb code (e .code)) _ h (λ u. ap f (eqb-true _ _ u) ∙ both-left _ _ t) (λ u. knownIn-by f es code (both-right _ _ t) u)
+    ⊎-elim (λ (u : eqb code (e .code) ≡ true). ap f (eqb-true _ _ u) ∙ both-left _ _ t)
+    (λ u. knownIn-by f es code (both-right _ _ t) u) (either-cases _ _ h)
 
 pub known-by : (f : ℕ → Bool) (code : ℕ) → every (λ (e : Entry). f (e .code)) formats ≡ true → known code ≡ true → f code ≡ true
 unfolding known

@@ -1,8 +1,7 @@
 -- Entries: from one test over the table of formats to the rule at each code. Values: what a cell holds of a number that its kind admits.
 -- Numbering: a cell from its code and its numbers. Storing: numbers that their fields admit make a sound cell.
 -- Sending: a cell from its text. TextSteps: each way through reading a text, and each piece of printing it. Cases: texts taken and refused, computed.
--- TestsCodes: what the last arm of a `match` on a code knows. TestsJoins: joined tests, as the code joins them and in another order.
--- TestsFields: the tests of single fields, in plain comparisons. TestsRows: the tests of a whole row.
+-- TestsCodes: a code that is none of a table's. TestsFields: the tests of single fields, in plain comparisons. TestsRows: the tests of a whole row.
 pub mod Entries
 pub mod Values
 pub mod Numbering
@@ -11,6 +10,5 @@ pub mod Sending
 mod TextSteps
 mod Cases
 mod TestsCodes
-mod TestsJoins
-mod TestsFields
+pub mod TestsFields
 mod TestsRows

@@ -14,6 +14,7 @@ use mir.Facts.{toZ-ofZ}
 use borrow.Author.Tests.{le-ltb, lt-ltb, le-leb, lt-leb, leb-true}
 use Rattle.laws.specs.Tests.{choose, both}
 use Rattle.laws.proofs.Tests.{lt-or-le}
+use Rattle.laws.proofs.Joins.{and-both, both-end, both-false-right, both-under-right}
 use Rattle.units.specs.declared.Steps.{Steps}
 use Rattle.units.specs.declared.position.Position.{Position}
 use Rattle.units.specs.Bits.{bitsOf}
@@ -28,7 +29,6 @@ use Rattle.fields.specs.declared.names.Names.the-variants.{Settable, Conditions
 use Rattle.instruction.specs.Formats.{hertz, steps, count, position, bit}
 use Rattle.instruction.specs.Numbers.{bitOf}
 use Rattle.instruction.specs.Soundness.{stepsWithin}
-use Rattle.instruction.proofs.TestsJoins.{and-both, both-end, both-false, both-under}
 
 -- ---- a bit
 
@@ -102,11 +102,11 @@ within (negsuc n) = and-both _ true ∙ both-end _ ∙ sym (leb·suc-suc n 83886
 
 counted : (z : ℤ) → leZ (pos 0) z && leZ z (pos 8388607) ≡ both (valid count (ofZ w32 z)) (leb (natAbs z) 8388607)
 unfolding valid both
-counted (pos n) = simp (leb·zero n) (sym (both-under (leb n 8388607) (λ e. e)))
-counted (negsuc n) = sym (both-under (leb (suc n) 8388607) far)
+counted (pos n) = simp (leb·zero n) (sym (both-under-right (leb n 8388607) (λ e. e)))
+counted (negsuc n) = sym (both-under-right (leb (suc n) 8388607) far)
   where
     far : leb (suc n) 8388607 ≡ true → both (leb 0 (2 ^ 32 - suc n)) (leb (2 ^ 32 - suc n) 8388607) ≡ false
-    far t = simp (lt-leb (2 ^ 32 - suc n) 8388607 (omega (arith, leb-true (suc n) 8388607 t))) (both-false (leb 0 (2 ^ 32 - suc n)))
+    far t = simp (lt-leb (2 ^ 32 - suc n) 8388607 (omega (arith, leb-true (suc n) 8388607 t))) (both-false-right (leb 0 (2 ^ 32 - suc n)) false refl)
 
 -- steps that were read back from their bits, from −8,388,607 to +8,388,607
 pub within-bits : (n : Steps) → SFits w32 (n .0) →

@@ -5,6 +5,7 @@ use mathlib.Core.Path.{_≡_, _∙_}
 use mathlib.Core.Bool.{Bool, true, _&&_}
 use mathlib.Core.List.{[], _∷_}
 use Rattle.laws.specs.Tests.{both}
+use Rattle.laws.proofs.Joins.{and-both, both-start, both-end, both-assoc, both-comm, both-under-right}
 use Rattle.units.specs.declared.Steps.{Steps}
 use Rattle.units.specs.Bits.{bitsOf}
 use Rattle.fields.specs.Kinds.{valid}
@@ -14,7 +15,6 @@ use Rattle.fields.specs.declared.kinds.Kind.the-variants.{Next, Sign, Multiplie
 use Rattle.instruction.specs.Formats.{steps, bit}
 use Rattle.instruction.specs.Numbers.{bitOf, six}
 use Rattle.instruction.specs.Soundness.{stepsWithin}
-use Rattle.instruction.proofs.TestsJoins.{and-both, both-start, both-end, both-assoc, both-comm, both-under}
 use Rattle.instruction.proofs.TestsFields.{valid-sign, valid-multiplier, valid-value, valid-steps}
 
 -- tests joined one after the other, with no bits among them
@@ -58,7 +58,7 @@ pub row-cam : (k : Kind) (f d : ℕ) (v w : Bool) {b c : Bool} → b ≡ valid N
     b && c ≡ both (allValid (bit ∷ k ∷ Next ∷ []) (six (bitOf v) f d 0 0 0)) w
 unfolding allValid
 row-cam k f d v w q r =
-    simp (q, r, and-both, ← both-assoc) (both-under w (λ t. both-comm (valid Next d) (valid k f) ∙ simp joined))
+    simp (q, r, and-both, ← both-assoc) (both-under-right w (λ t. both-comm (valid Next d) (valid k f) ∙ simp joined))
 
 -- 12 and 22
 pub row-free : (k : Kind) (f d : ℕ) (s x : Bool) {a b : Bool} → a ≡ valid k f → b ≡ valid Next d →
@@ -83,14 +83,14 @@ row-search k l m f r g d s p t q = simp (p, q, t, joined)
 pub row-indexed : (k : Kind) (f d : ℕ) (n : Steps) (x : Bool) {a b c : Bool} → a ≡ valid k f → b ≡ valid Next d → c ≡ stepsWithin n →
     (a && b) && c ≡ both (allValid (k ∷ steps ∷ Multiplier ∷ Next ∷ []) (six f (bitsOf n) (bitOf x) d 0 0)) (stepsWithin n)
 unfolding allValid
-row-indexed k f d n x p q r = simp (p, q, r, and-both) (both-under (stepsWithin n) (λ t. simp (valid-steps n t, joined)))
+row-indexed k f d n x p q r = simp (p, q, r, and-both) (both-under-right (stepsWithin n) (λ t. simp (valid-steps n t, joined)))
 
 -- 01 and 31
 pub row-indexed-ramp : (k l : Kind) (f r d : ℕ) (n : Steps) (x : Bool) {a b c : Bool} →
     a ≡ both (valid k f) (valid l r) → b ≡ valid Next d → c ≡ stepsWithin n →
     (a && b) && c ≡ both (allValid (k ∷ l ∷ steps ∷ Multiplier ∷ Next ∷ []) (six f r (bitsOf n) (bitOf x) d 0)) (stepsWithin n)
 unfolding allValid
-row-indexed-ramp k l f r d n x p q s = simp (p, q, s, and-both) (both-under (stepsWithin n) (λ t. simp (valid-steps n t, joined)))
+row-indexed-ramp k l f r d n x p q s = simp (p, q, s, and-both) (both-under-right (stepsWithin n) (λ t. simp (valid-steps n t, joined)))
 
 -- 05
 pub row-stop : (k l m : Kind) (f r d : ℕ) (n : Steps) (s x : Bool) {a b c : Bool} →
@@ -99,4 +99,4 @@ pub row-stop : (k l m : Kind) (f r d : ℕ) (n : Steps) (s x : Bool) {a b c : Bo
     ≡ both (allValid (k ∷ l ∷ Sign ∷ m ∷ Multiplier ∷ Next ∷ []) (six f r (bitOf s) (bitsOf n) (bitOf x) d)) (stepsWithin n)
 unfolding allValid
 row-stop k l m f r d n s x p q t =
-    simp (p, q, t, and-both, ← both-assoc) (both-under (stepsWithin n) (λ u. simp (both-comm (valid Next d) (valid m (bitsOf n)), joined)))
+    simp (p, q, t, and-both, ← both-assoc) (both-under-right (stepsWithin n) (λ u. simp (both-comm (valid Next d) (valid m (bitsOf n)), joined)))

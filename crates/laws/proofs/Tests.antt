@@ -33,6 +33,22 @@ unfolding either
 either-right true b t = cc
 either-right false b t = t
 
+-- a join of which one test is true
+pub either-true-left : (a b : Bool) → a ≡ true → either a b ≡ true
+unfolding either
+either-true-left a b t = rw t
+
+pub either-true-right : (a b : Bool) → b ≡ true → either a b ≡ true
+unfolding either
+either-true-right true b t = refl
+either-true-right false b t = t
+
+-- of a true join one test is true
+pub either-cases : (a b : Bool) → either a b ≡ true → (a ≡ true) ⊎ (b ≡ true)
+unfolding either
+either-cases true b t = inl refl
+either-cases false b t = inr t
+
 -- what holds of each branch, under its test, holds of the choice
 pub choose-by {ℓ} : {A : Type ℓ} (P : A → Type 0) (b : Bool) {x y : A} → (b ≡ true → P x) → (b ≡ false → P y) → P (choose b x y)
 unfolding choose
@@ -46,6 +62,11 @@ choose-true b x y e = rw e
 pub choose-false {ℓ} : {A : Type ℓ} (b : Bool) (x y : A) → b ≡ false → choose b x y ≡ y
 unfolding choose
 choose-false b x y e = rw e
+
+pub choose-map : {A B : Type 0} (f : A → B) (b : Bool) (x y : A) → f (choose b x y) ≡ choose b (f x) (f y)
+unfolding choose
+choose-map f true x y = refl
+choose-map f false x y = refl
 
 pub lt-or-le : (a b : ℕ) → (a < b) ⊎ (b ≤ a)
 lt-or-le a b = ⊎-elim (λ (e : b - a ≡ 0). inr (omega arith)) (λ (p : 0 < b - a). inl (omega arith)) (eq-zero-or-pos (b - a))

@@ -11,10 +11,10 @@ use lib.ListN.{length}
 use lib.Signed.{ltZ}
 use mir.Syntax.{w32}
 use mir.Val.{ofZ}
-use borrow.Author.Tests.{leb-true, eqb-true, ne-eqb, le-ltb}
+use borrow.Author.Tests.{leb-true, eqb-true, ne-eqb, le-ltb, le-leb}
 use Rattle.laws.specs.Tests.{choose, either}
 use Rattle.laws.specs.Tables.{every}
-use Rattle.laws.proofs.Tests.{both-left, both-right, both-true}
+use Rattle.laws.proofs.Tests.{both-left, both-right, both-true, either-true-right}
 use Rattle.laws.proofs.Tables.{every-at}
 use Rattle.fields.specs.Kinds.{valid, validSigned}
 use Rattle.fields.specs.Rows.{allValid}
@@ -38,7 +38,7 @@ use Rattle.instruction.specs.declared.Instruction.the-variants.{Null, IndexedRa
 use Rattle.instruction.specs.declared.run.Profile.{Profile}
 use Rattle.machine.specs.Record.{cellAt, nullCell}
 use Rattle.machine.specs.Soundness.{isCell, positionSound, camSound, loopCountSound, isIndexed, hasRamp, brakingPhase, backPhase}
-use Rattle.machine.proofs.Tests.{clash, either-right, either-second, second, third, fourth, fifth, sixth}
+use Rattle.machine.proofs.Tests.{clash, either-second, second, third, fourth, fifth, sixth}
 
 -- ---- addresses
 
@@ -49,7 +49,7 @@ next-cell a t u = either-second _ _ t u
 
 pub cell-next : (a : CellAddress) → isCell a ≡ true → valid Next (a .0) ≡ true
 unfolding valid isCell
-cell-next a t = either-right _ _ t
+cell-next a t = either-true-right _ _ t
 
 pub cell-from : (a : CellAddress) → isCell a ≡ true → 100 ≤ a .0
 unfolding isCell
@@ -160,6 +160,11 @@ run-in Recovery d v c = no-run
 pub run-sound : (c : Cell) → cellSound c ≡ true → SoundRun (profileOf (c .instruction))
 unfolding cellSound
 run-sound c t = run-in (c .instruction) (c .next .0) (both-left _ _ t) (both-right _ _ t)
+
+-- 01: "n is ±nnn within 8,388,607 each way"
+pub steps-within : (c : Cell) → cellSound c ≡ true → stepsWithin (profileOf (c .instruction) .steps) ≡ true
+unfolding stepsWithin
+steps-within c t = le-leb _ 8388607 (run-sound c t .small)
 
 -- ---- what the other codes hold
 

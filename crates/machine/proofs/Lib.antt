@@ -1,5 +1,6 @@
 -- The starred table: Starred.
--- What soundness says: Cells (of a cell and its run), Parts (of a state, part by part), Rests (of what remains of a run or a delay).
+-- What soundness says: Cells (of a cell and its run), Parts (of a state, part by part), Rests (of what remains of a run or a delay),
+-- Places (of the places of the memory that a drive names).
 -- What keeps a state sound: Going (what events are made of), Taking (each code), Milliseconds (and waits), Stopping (stops and PX),
 -- Reports (at-speed and halted), Stepping, Inputs.
 -- What keeps a drive sound: Ranges (what a string asks for), Storing (a cell), Hearing (a string), Invariant (every call: the theorem).
@@ -13,6 +14,7 @@ mod Tests
 pub mod Cells
 pub mod Parts
 pub mod Rests
+pub mod Places
 mod Going
 mod Taking
 pub mod Milliseconds
@@ -20,7 +22,7 @@ pub mod Stopping
 pub mod Reports
 pub mod Stepping
 pub mod Inputs
-mod Ranges
+pub mod Ranges
 mod Storing
 mod Hearing
 pub mod Waits
@@ -30,7 +32,7 @@ pub mod Addressing
 mod Requests
 pub mod Answering
 mod Texts
-mod Showing
+pub mod Showing
 mod Interrupted
 pub mod Readings
 mod WritingBack

@@ -39,7 +39,7 @@ use Rattle.machine.proofs.Tests.{clash}
 
 -- ---- values
 
-first-valid : (k : Kind) (ks : List Kind) (vs : List ℕ) → allValid (k ∷ ks) vs ≡ true → valid k (getD vs 0 0) ≡ true
+pub first-valid : (k : Kind) (ks : List Kind) (vs : List ℕ) → allValid (k ∷ ks) vs ≡ true → valid k (getD vs 0 0) ≡ true
 unfolding allValid
 first-valid k ks [] t = clash t
 first-valid k ks (v ∷ vs) t = both-left _ _ t
@@ -55,7 +55,7 @@ unfolding validSigned
 signed-fits below above v t = both-left _ _ t
 
 -- a cell address, held in a byte
-address-cell : (vs : List ℕ) → allValid (cell ∷ []) vs ≡ true → isCell (addressOf vs) ≡ true
+pub address-cell : (vs : List ℕ) → allValid (cell ∷ []) vs ≡ true → isCell (addressOf vs) ≡ true
 unfolding isCell valid
 address-cell vs t =
     let u = first-valid cell [] vs t in
@@ -98,7 +98,7 @@ Fine s AskFault = Unit {0}
 Fine s AskSuspended = Unit {0}
 Fine s Wrong = Unit {0}
 
-on-fields : (P : Command → Type 0) (p : Parsed) (f : List ℕ → Command) → (p .ok ≡ true → P (f (p .values))) → P Wrong → P (onFields p f)
+pub on-fields : (P : Command → Type 0) (p : Parsed) (f : List ℕ → Command) → (p .ok ≡ true → P (f (p .values))) → P Wrong → P (onFields p f)
 unfolding onFields
 on-fields P p f h w = choose-by P (p .ok) h (λ t. w)
 

@@ -4,7 +4,7 @@ use mathlib.Core.Path.{_≡_, refl, ap}
 use mathlib.Core.Bool.{Bool, true, false}
 use mathlib.Core.List.{List}
 use Rattle.laws.specs.Tests.{choose}
-use Rattle.laws.proofs.Tests.{choose-by}
+use Rattle.laws.proofs.Tests.{choose-by, either-true-left}
 use Rattle.instruction.specs.declared.Cell.{Cell}
 use Rattle.instruction.specs.declared.run.Motion.{Motion}
 use Rattle.instruction.specs.declared.run.Motion.the-variants.{NoRun, IndexedRun, FreeRun, SearchRun, StoppedRun}
@@ -15,7 +15,7 @@ use Rattle.machine.specs.Reports.{runsOrBrakes, takesAtSpeed, takesAtSpe
 use Rattle.machine.specs.declared.Phase.{Phase}
 use Rattle.machine.specs.declared.Phase.the-variants.{Waiting, Delay, Run, Braking, Slowing, EmergencySlowing, BackOff}
 use Rattle.machine.specs.declared.State.{State}
-use Rattle.machine.proofs.Tests.{clash, either-left}
+use Rattle.machine.proofs.Tests.{clash}
 use Rattle.machine.proofs.Cells.{Memory}
 use Rattle.machine.proofs.Rests.{nothing-suspended, steps-suspended}
 use Rattle.machine.proofs.Parts.{Parts, BusyIn, runOf, phase-busy}
@@ -27,7 +27,7 @@ speed-mark : (p : Phase) (r : Profile) → choose (runsOrBrakes p) (hasRamp r) f
 unfolding choose runsOrBrakes markSound
 speed-mark Waiting r t = clash t
 speed-mark Delay r t = clash t
-speed-mark Run r t = either-left _ _ t
+speed-mark Run r t = either-true-left _ _ t
 speed-mark Braking r t = refl
 speed-mark Slowing r t = refl
 speed-mark EmergencySlowing r t = refl

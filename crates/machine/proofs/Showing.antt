@@ -1,20 +1,22 @@
 -- Equal texts of a part of the state are texts of equal parts.
 -- Assumes nothing.
-use Prim.Native.Nat.{ℕ, _-_, _^_, _≤_, _<_}
+use Prim.Native.Nat.{ℕ, _^_, _≤_, _<_}
 use native.Mathlib.Omega.{arith}
 use mathlib.Core.Path.{_≡_, refl, ap, sym, _∙_}
 use mathlib.Core.Bool.{Bool, true, false}
 use mathlib.Core.List.{List, [], _∷_}
+use mathlib.Core.Logic.{⊎-elim}
 use lib.ListN.{length, getD}
 use lib.Seq.{ext-getD}
-use lib.Dec.{eqb, leb, ltb}
-use borrow.Author.Tests.{eqb-true, leb-true, ltb-true, ltb-false, le-leb, lt-ltb}
+use lib.Dec.{eqb, leb}
+use borrow.Author.Tests.{eqb-true, leb-true, ltb-true, lt-ltb}
 use Rattle.laws.specs.Tests.{choose, both, either}
 use Rattle.laws.specs.Tables.{every}
-use Rattle.laws.proofs.Tests.{both-left, both-right, both-true, choose-by}
+use Rattle.laws.proofs.Tests.{both-left, both-right, both-true, choose-by, lt-or-le}
 use Rattle.decimal.specs.Printing.{digits}
-use Rattle.fields.specs.Kinds.{printField, good, goodSigned, valid, validSigned}
+use Rattle.fields.specs.Kinds.{printField, good, goodSigned, valid}
 use Rattle.fields.specs.Rows.{printFields, allGood, allValid}
+use Rattle.fields.proofs.Bounds.{between-valid, signed-above, signed-below}
 use Rattle.fields.proofs.RoundTrip.{print-injective}
 use Rattle.fields.specs.Names.{listOf, listed}
 use Rattle.fields.specs.declared.kinds.Kind.{Kind}
@@ -24,6 +26,7 @@ use Rattle.units.specs.declared.position.Position.{Position}
 use Rattle.instruction.specs.Formats.{bit}
 use Rattle.instruction.specs.Numbers.{bitOf, isOne}
 use Rattle.instruction.proofs.Values.{one-bit}
+use Rattle.instruction.proofs.TestsFields.{valid-value}
 use Rattle.machine.specs.Record.{inputAt, outputAt}
 use Rattle.machine.specs.Soundness.{presetsSound, isCell, positionSound, camSound, faultSound}
 use Rattle.machine.specs.Commands.{anySigned, presetKind}
@@ -41,14 +44,9 @@ use Rattle.machine.proofs.Texts.{later-same, value-same}
 
 -- what a field without a sign admits
 pub within-valid : (n v : ℕ) → v ≤ n → both (leb 0 v) (leb v n) ≡ true
-within-valid n v h = both-true (le-leb 0 v (omega arith)) (le-leb v n h)
+within-valid n v h = between-valid 0 n v (omega arith) h
 
 -- ---- bits
-
-bit-valid : (b : Bool) → valid bit (bitOf b) ≡ true
-unfolding valid both
-bit-valid true = refl
-bit-valid false = refl
 
 bit-injective : (a b : Bool) → bitOf a ≡ bitOf b → a ≡ b
 bit-injective a b e = sym (one-bit a) ∙ ap isOne e ∙ one-bit b
@@ -58,7 +56,7 @@ bit-same :
     (k : Kind) (v : ℕ) (a b : Bool) →
     printFields (k ∷ bit ∷ []) (v ∷ bitOf a ∷ []) ≡ printFields (k ∷ bit ∷ []) (v ∷ bitOf b ∷ []) → a ≡ b
 unfolding good both
-bit-same k v a b e = bit-injective a b (value-same bit (bitOf a) (bitOf b) refl (bit-valid a) (bit-valid b) (later-same k (bit ∷ []) v _ _ e))
+bit-same k v a b e = bit-injective a b (value-same bit (bitOf a) (bitOf b) refl (valid-value a) (valid-value b) (later-same k (bit ∷ []) v _ _ e))
 
 pub inputs-same :
     (s t : State) → length (s .inputs) ≡ 11 → length (t .inputs) ≡ 11 → ((k : ℕ) → k < 11 → inputText k s ≡ inputText k t) →
@@ -90,7 +88,7 @@ unfolding presetText allGood every
 preset-same k s t p q e = value-same (presetKind k) _ _ (both-left _ _ (preset-good k)) p q (later-same (Name Presets) (presetKind k ∷ []) k _ _ e)
 
 -- each value of RS has a place of its own in its list
-resolution-placed : (r : Resolution) → (resolutionAt (resolutionPlace r) ≡ r) × (valid (Name Resolutions) (resolutionPlace r) ≡ true)
+pub resolution-placed : (r : Resolution) → (resolutionAt (resolutionPlace r) ≡ r) × (valid (Name Resolutions) (resolutionPlace r) ≡ true)
 unfolding resolutionAt resolutionPlace choose valid listOf listed
 resolution-placed D0 = (refl, refl)
 resolution-placed D1 = (refl, refl)
@@ -118,8 +116,8 @@ presets-same s t g h e =
     let a = preset-same 0 s t (within-valid _ _ (p .0)) (within-valid _ _ (q .0)) (e 0 (omega arith)) in
     let c = preset-same 1 s t (within-valid _ _ (p .1)) (within-valid _ _ (q .1)) (e 1 (omega arith)) in
     let r = preset-same 2 s t (resolution-placed (s .presets .resolution) .1) (resolution-placed (t .presets .resolution) .1) (e 2 (omega arith)) in
-    let i = preset-same 3 s t (bit-valid (s .presets .interlock)) (bit-valid (t .presets .interlock)) (e 3 (omega arith)) in
-    let m = preset-same 4 s t (bit-valid (s .presets .absolute)) (bit-valid (t .presets .absolute)) (e 4 (omega arith)) in
+    let i = preset-same 3 s t (valid-value (s .presets .interlock)) (valid-value (t .presets .interlock)) (e 3 (omega arith)) in
+    let m = preset-same 4 s t (valid-value (s .presets .absolute)) (valid-value (t .presets .absolute)) (e 4 (omega arith)) in
     λ j. record {
       address = record { 0 = a j };
       current = c j;
@@ -131,12 +129,9 @@ presets-same s t g h e =
 -- ---- position and cam
 
 pub signed-valid : (v : ℕ) → v < 2 ^ 32 → valid anySigned v ≡ true
-unfolding valid validSigned
+unfolding valid
 signed-valid v h =
-    both-true (lt-ltb v (2 ^ 32) h)
-    (choose-by (λ (b : Bool). b ≡ true) (ltb v (2 ^ 31))
-    (λ t. le-leb v (2 ^ 31 - 1) (omega (arith, ltb-true v (2 ^ 31) t)))
-    (λ f. le-leb (2 ^ 32 - v) (2 ^ 31) (omega (arith, ltb-false v (2 ^ 31) f))))
+    ⊎-elim (λ l. signed-above _ _ v l (omega arith)) (λ g. signed-below _ _ v h g (omega arith)) (lt-or-le v (2 ^ 31))
 
 number-same :
     (p q : Position) → positionSound p ≡ true → positionSound q ≡ true →
@@ -171,7 +166,7 @@ cam-same c d g h e = cam-same-by (c .set) (d .set) (c .position) (d .position) g
 
 -- ---- error
 
-fault-small : (f : Fault) → faultSound f ≡ true → (f .code ≤ 99) × (f .cell .0 ≤ 999)
+pub fault-small : (f : Fault) → faultSound f ≡ true → (f .code ≤ 99) × (f .cell .0 ≤ 999)
 unfolding faultSound isCell
 fault-small f =
     choose-by (λ (b : Bool). b ≡ true → (f .code ≤ 99) × (f .cell .0 ≤ 999)) (eqb (f .code) 0)

@@ -4,7 +4,7 @@ use mathlib.Core.Path.{_≡_, refl, ap, _∙_}
 use mathlib.Core.Bool.{Bool, true, false, not}
 use mathlib.Core.List.{List}
 use Rattle.laws.specs.Tests.{choose}
-use Rattle.laws.proofs.Tests.{choose-by}
+use Rattle.laws.proofs.Tests.{choose-by, either-true-left, either-true-right}
 use Rattle.instruction.specs.declared.Cell.{Cell}
 use Rattle.instruction.specs.declared.run.Motion.{Motion}
 use Rattle.instruction.specs.declared.run.Motion.the-variants.{NoRun, IndexedRun, FreeRun, SearchRun, StoppedRun}
@@ -17,7 +17,7 @@ use Rattle.machine.specs.declared.Remaining.{Remaining}
 use Rattle.machine.specs.declared.Phase.{Phase}
 use Rattle.machine.specs.declared.Phase.the-variants.{Waiting, Delay, Run, Braking, Slowing, EmergencySlowing, BackOff}
 use Rattle.machine.specs.declared.State.{State}
-use Rattle.machine.proofs.Tests.{clash, either-left, either-right}
+use Rattle.machine.proofs.Tests.{clash}
 use Rattle.machine.proofs.Cells.{SoundRun, Memory}
 use Rattle.machine.proofs.Rests.{braking-along, nothing-suspended, time-suspended, run-suspended}
 use Rattle.machine.proofs.Parts.{Parts, BusyIn, runOf, running-busy, phase-busy}
@@ -32,7 +32,7 @@ run-emergency NoRun p r t = t
 run-emergency IndexedRun p r t = t
 run-emergency FreeRun p r t = t
 run-emergency SearchRun p r t = t
-run-emergency StoppedRun p r t = either-left _ _ t
+run-emergency StoppedRun p r t = either-true-left _ _ t
 
 braking-emergency :
     (m : Motion) (p : Profile) (r : Remaining) → brakingPhase m ≡ true → isStepsAlong (p .backward) r ≡ true → emergencyRest m p r ≡ true
@@ -41,7 +41,7 @@ braking-emergency NoRun p r b t = clash b
 braking-emergency IndexedRun p r b t = clash b
 braking-emergency FreeRun p r b t = clash b
 braking-emergency SearchRun p r b t = clash b
-braking-emergency StoppedRun p r b t = either-right _ _ t
+braking-emergency StoppedRun p r b t = either-true-right _ _ t
 
 slowing-emergency : (m : Motion) (p : Profile) (r : Remaining) → slowingPhase m p ≡ true → isNothing r ≡ true → emergencyRest m p r ≡ true
 unfolding slowingPhase emergencyRest
@@ -57,7 +57,7 @@ unfolding slowingPhase backPhase
 slowing-ramp p d NoRun e t = clash t
 slowing-ramp p d IndexedRun e t = clash t
 slowing-ramp p d FreeRun e t = t
-slowing-ramp p d SearchRun e t = d .ramped (either-right _ _ (ap backPhase e))
+slowing-ramp p d SearchRun e t = d .ramped (either-true-right _ _ (ap backPhase e))
 slowing-ramp p d StoppedRun e t = clash t
 
 module _ {cells : List Cell} (m : Memory cells) {s : State} (g : Parts cells s) where
@@ -156,7 +156,7 @@ module _ {cells : List Cell} (m : Memory cells) {s : State} (g : Parts cells s) 
   emergency-in Run b =
       choose-by (Parts cells) _ (λ t. interrupted-sound g (b .cell) (b .loops) (run-suspended _ _ (b .rest)))
       (λ t. slowed-sound b (ap not t) (run-emergency _ _ _ (b .rest)))
-  emergency-in Braking b = slowed-sound b (present-run m s b .ramped (either-left _ _ (b .phase))) (braking-emergency _ _ _ (b .phase) (b .rest))
+  emergency-in Braking b = slowed-sound b (present-run m s b .ramped (either-true-left _ _ (b .phase))) (braking-emergency _ _ _ (b .phase) (b .rest))
   emergency-in Slowing b = slowed-sound b (slowing-ramp _ (present-run m s b) _ refl (b .phase)) (slowing-emergency _ _ _ (b .phase) (b .rest))
   emergency-in EmergencySlowing b = g
   emergency-in BackOff b = interrupted-sound g (b .cell) (b .loops) (nothing-suspended _ _ (b .rest))

@@ -9,7 +9,7 @@ use lib.IntN.{ℤ, natAbs}
 use lib.ListN.{length-set}
 use borrow.Author.Tests.{leb-true, le-leb, eqb-false}
 use Rattle.laws.specs.Tests.{choose, both}
-use Rattle.laws.proofs.Tests.{choose-by, choose-true, choose-false}
+use Rattle.laws.proofs.Tests.{choose-by, choose-true, choose-false, either-true-right}
 use Rattle.fields.specs.Kinds.{valid}
 use Rattle.fields.specs.declared.kinds.Kind.the-variants.{Next}
 use Rattle.units.specs.Remaining.{isZeroOf}
@@ -37,7 +37,6 @@ use Rattle.machine.specs.declared.Remaining.the-variants.{Nothing}
 use Rattle.machine.specs.declared.Phase.{Phase}
 use Rattle.machine.specs.declared.Phase.the-variants.{Run}
 use Rattle.machine.specs.declared.State.{State}
-use Rattle.machine.proofs.Tests.{either-right}
 use Rattle.machine.proofs.Cells.{cell-next, next-sound, SoundRun, run-sound, cam-cell, loop-cell, closing-cell, jump-cell, delay-cell, Memory, cell-sound}
 use Rattle.machine.proofs.Rests.{within-steps, time-sound}
 use Rattle.machine.proofs.Parts.{Parts, position-sound, outputs-sound, cam-sound}
@@ -73,7 +72,7 @@ module _ {cells : List Cell} {s : State} (g : Parts cells s)
       {r : Remaining} (i : Instruction) → present cells s .instruction ≡ i → runPhase (profileOf i .motion) ≡ true →
       busyRest Run (profileOf i) r ≡ true → Parts cells (entered s Run r)
   unfolding hasPhase markSound
-  run-begun i e h r = entered-sound i e h r (either-right _ _ refl)
+  run-begun i e h r = entered-sound i e h r (either-true-right _ _ refl)
 
   indexed-begun :
       (i : Instruction) (next : CellAddress) (z : ℤ) → present cells s .instruction ≡ i → profileOf i .motion ≡ IndexedRun →

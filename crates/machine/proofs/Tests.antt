@@ -19,15 +19,6 @@ pub by-test {ℓ} : {X : Type ℓ} (b : Bool) → (b ≡ true → X) → (b ≡ 
 by-test true f g = f refl
 by-test false f g = g refl
 
-pub either-left : (a b : Bool) → a ≡ true → either a b ≡ true
-unfolding either
-either-left a b t = rw t
-
-pub either-right : (a b : Bool) → b ≡ true → either a b ≡ true
-unfolding either
-either-right true b t = refl
-either-right false b t = t
-
 -- one of two holds, and the other does not
 pub either-first : (a b : Bool) → either a b ≡ true → b ≡ false → a ≡ true
 unfolding either

@@ -12,7 +12,7 @@ use borrow.Author.Tests.{eq-eqb}
 use Rattle.laws.specs.Tests.{both}
 use Rattle.laws.specs.Tables.{every}
 use Rattle.laws.specs.Text.{bytes}
-use Rattle.laws.proofs.Tests.{both-true, choose-by, choose-true}
+use Rattle.laws.proofs.Tests.{both-true, choose-by, choose-true, either-true-right}
 use Rattle.fields.specs.Names.{pairOf}
 use Rattle.fields.specs.Kinds.{good, valid, most}
 use Rattle.fields.specs.Rows.{parseFields, printFields, allGood, allValid, mostAll}
@@ -39,7 +39,6 @@ use Rattle.machine.specs.Demand3.Places.{none, more}
 use Rattle.machine.specs.declared.Machine.{Machine}
 use Rattle.machine.specs.declared.commands.Command.{Command}
 use Rattle.machine.specs.declared.commands.Command.the-variants.{Store}
-use Rattle.machine.proofs.Tests.{either-right}
 use Rattle.machine.proofs.Invariant.{Good, good-sound}
 use Rattle.instruction.proofs.Values.{keeps-byte}
 use Rattle.instruction.proofs.Sending.{sent-text, length-text, text-ends}
@@ -61,7 +60,7 @@ same-content c = both-true (eq-eqb (codeOf (c .instruction)) _ refl) (same-numbe
 
 keeps-same : (m : Machine) (a : CellAddress) → keepsSuspended m a (cellAt (m .cells) a) ≡ true
 unfolding keepsSuspended
-keeps-same m a = either-right _ _ (same-content (cellAt (m .cells) a))
+keeps-same m a = either-true-right _ _ (same-content (cellAt (m .cells) a))
 
 stored-same : (m : Machine) (a : CellAddress) → stored m a (cellAt (m .cells) a) ≡ m
 unfolding stored storedAt cellAt

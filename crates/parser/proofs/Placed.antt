@@ -8,10 +8,10 @@ use mathlib.Core.Bool.{true}
 use mathlib.Core.List.{List, [], _∷_}
 use lib.ListN.{length, getD}
 use lib.Dec.{ltb, lit≤}
-use borrow.Author.Tests.{leb-true, ltb-true}
+use borrow.Author.Tests.{ltb-true}
 use Rattle.laws.specs.Tests.{both}
 use Rattle.laws.specs.Tables.{every}
-use Rattle.laws.proofs.Tests.{both-left, both-right, both-true, choose-by}
+use Rattle.laws.proofs.Tests.{both-true, choose-by}
 use Rattle.fields.specs.Names.{listed, listOf}
 use Rattle.fields.specs.Kinds.{goodSigned, good, valid}
 use Rattle.fields.specs.Rows.{parseFields, parseAll, allGood, allValid}
@@ -19,7 +19,6 @@ use Rattle.fields.specs.declared.kinds.Kind.{Kind}
 use Rattle.fields.specs.declared.kinds.Kind.the-variants.{Name}
 use Rattle.fields.specs.declared.names.Names.{Names}
 use Rattle.fields.specs.declared.names.Names.the-variants.{Presets}
-use Rattle.fields.specs.declared.rows.Parsed.{Parsed}
 use Rattle.fields.proofs.Validity.{fields-valid, all-valid}
 use Rattle.instruction.specs.Formats.{cell}
 use Rattle.instruction.specs.Numbers.{byteOf}
@@ -30,18 +29,14 @@ use Rattle.instruction.specs.declared.text.Sent.the-variants as sent
 use Rattle.instruction.proofs.Sending.{sent-sound}
 use Rattle.units.specs.declared.CellAddress.{CellAddress}
 use Rattle.machine.specs.Soundness.{isCell}
-use Rattle.machine.specs.Commands.{fieldsAt, onFields, onAll, addressOf, onSent, storeIn, presetIn, camWith, camIn, commandOf, placed}
+use Rattle.machine.specs.Commands.{fieldsAt, onAll, onSent, storeIn, presetIn, camWith, camIn, commandOf, placed}
 use Rattle.machine.specs.declared.commands.Command.{Command}
+use Rattle.machine.proofs.Ranges.{first-valid, address-cell, on-fields}
 
 abbrev Placed : Command → Type 0
 Placed c = placed c ≡ true
 
-first-valid : (k : Kind) (ks : List Kind) (vs : List ℕ) → allValid (k ∷ ks) vs ≡ true → valid k (getD vs 0 0) ≡ true
-unfolding allValid
-first-valid k ks [] t = let z : _≡_ {A = ℕ} 0 1 = cc in absurd (omega arith)
-first-valid k ks (v ∷ vs) t = both-left _ _ t
-
--- a name's place, and a cell address, are held whole in a byte
+-- a name's place is held whole in a byte
 name-placed :
     (n : Names) (ks : List Kind) (vs : List ℕ) → length (listOf n) ≤ 256 → allValid (Name n ∷ ks) vs ≡ true →
     ltb (byteOf (getD vs 0 0)) (length (listOf n)) ≡ true
@@ -52,24 +47,12 @@ name-placed n ks vs h t =
     let e : getD vs 0 0 % 256 ≡ getD vs 0 0 = mod-eq-of-lt (omega arith) in
     rw e u
 
-address-placed : (vs : List ℕ) → allValid (cell ∷ []) vs ≡ true → isCell (addressOf vs) ≡ true
-unfolding isCell valid
-address-placed vs t =
-    let u = first-valid cell [] vs t in
-    let l = leb-true (getD vs 0 0) 230 (both-right _ _ u) in
-    let e : getD vs 0 0 % 256 ≡ getD vs 0 0 = mod-eq-of-lt (omega arith) in
-    rw e u
-
-on-fields : (p : Parsed) (f : List ℕ → Command) → (p .ok ≡ true → Placed (f (p .values))) → Placed (onFields p f)
-unfolding onFields placed
-on-fields p f h = choose-by Placed (p .ok) h (λ t. refl)
-
 module _ (s : List ℕ) where
   on-all :
       (ks : List Kind) (f : List ℕ → Command) → allGood ks ≡ true → length ks ≤ 6 →
       ((vs : List ℕ) → allValid ks vs ≡ true → Placed (f vs)) → Placed (onAll ks s f)
-  unfolding onAll
-  on-all ks f g h p = on-fields (parseAll ks s fieldsAt) f (λ t. p _ (all-valid ks s fieldsAt g h t))
+  unfolding onAll placed
+  on-all ks f g h p = on-fields Placed (parseAll ks s fieldsAt) f (λ t. p _ (all-valid ks s fieldsAt g h t)) refl
 
   on-sent : (a : CellAddress) (from : ℕ) → isCell a ≡ true → (x : Sent) → sentCell s from ≡ x → Placed (onSent a x)
   unfolding onSent placed
@@ -77,15 +60,15 @@ module _ (s : List ℕ) where
   on-sent a from h sent.Wrong e = refl
 
   store-placed : Placed (storeIn s (parseFields (cell ∷ []) s fieldsAt))
-  unfolding storeIn allGood every good both
+  unfolding storeIn placed allGood every good both
   store-placed =
-      on-fields _ _ (λ t. on-sent _ _ (address-placed _ (fields-valid (cell ∷ []) s fieldsAt refl (lit≤ tt) t)) _ refl)
+      on-fields Placed _ _ (λ t. on-sent _ _ (address-cell _ (fields-valid (cell ∷ []) s fieldsAt refl (lit≤ tt) t)) _ refl) refl
 
   preset-placed : Placed (presetIn s (parseFields (Name Presets ∷ []) s fieldsAt))
   unfolding presetIn placed allGood every good both listOf listed
   preset-placed =
-      on-fields _ _ (λ t. on-fields _ _ (λ u.
-      name-placed Presets [] _ (lit≤ tt) (fields-valid (Name Presets ∷ []) s fieldsAt refl (lit≤ tt) t)))
+      on-fields Placed _ _ (λ t. on-fields Placed _ _ (λ u.
+      name-placed Presets [] _ (lit≤ tt) (fields-valid (Name Presets ∷ []) s fieldsAt refl (lit≤ tt) t)) refl) refl
 
   cam-placed : Placed (camIn s)
   unfolding camIn camWith placed allGood every good goodSigned both
@@ -96,7 +79,7 @@ module _ (s : List ℕ) where
   command-placed =
       choose-by Placed _ (λ t. store-placed) (λ t.
       choose-by Placed _ (λ t. preset-placed) (λ t.
-      choose-by Placed _ (λ t. on-all _ _ refl (lit≤ tt) address-placed) (λ t.
+      choose-by Placed _ (λ t. on-all _ _ refl (lit≤ tt) address-cell) (λ t.
       choose-by Placed _ (λ t. on-all _ _ refl (lit≤ tt) (λ vs v. refl)) (λ t.
       choose-by Placed _ (λ t. on-all _ _ refl (lit≤ tt) (λ vs v. refl)) (λ t.
       choose-by Placed _ (λ t. on-all _ _ refl (lit≤ tt) (λ vs v. refl)) (λ t.
@@ -106,7 +89,7 @@ module _ (s : List ℕ) where
       choose-by Placed _ (λ t. on-all _ _ refl (lit≤ tt) (λ vs v. name-placed _ _ vs (lit≤ tt) v)) (λ t.
       choose-by Placed _ (λ t. on-all _ _ refl (lit≤ tt) (λ vs v. name-placed _ _ vs (lit≤ tt) v)) (λ t.
       choose-by Placed _ (λ t. on-all _ _ refl (lit≤ tt) (λ vs v. name-placed _ _ vs (lit≤ tt) v)) (λ t.
-      choose-by Placed _ (λ t. on-all _ _ refl (lit≤ tt) address-placed) (λ t.
+      choose-by Placed _ (λ t. on-all _ _ refl (lit≤ tt) address-cell) (λ t.
       choose-by Placed _ (λ t. on-all _ _ refl (lit≤ tt) (λ vs v. refl)) (λ t.
       choose-by Placed _ (λ t. on-all _ _ refl (lit≤ tt) (λ vs v. refl)) (λ t.
       choose-by Placed _ (λ t. on-all _ _ refl (lit≤ tt) (λ vs v. refl)) (λ t. refl))))))))))))))))

@@ -39,7 +39,9 @@ use Rattle.machine.specs.declared.Cam.{Cam}
 use Rattle.machine.specs.declared.Suspended.{Suspended}
 use Rattle.machine.specs.declared.State.{State}
 use Rattle.replies.specs.Pieces.{frontOf, requestAnswer, cellFields, rowOf, Ready, ReadyRow}
-use Rattle.replies.proofs.Validity.{signed-valid, bit-valid, output-valid, preset-valid, fault-code-valid, fault-cell-valid, suspended-valid}
+use Rattle.instruction.proofs.TestsFields.{valid-value}
+use Rattle.machine.proofs.Showing.{signed-valid}
+use Rattle.replies.proofs.Validity.{output-valid, preset-valid, fault-code-valid, fault-cell-valid, suspended-valid}
 use Rattle.replies.proofs.Writing.{put-length, length-front, put-request, put-asked}
 use Rattle.replies.proofs.Rows.{fits, ready-row}
 
@@ -96,7 +98,7 @@ pub input-ready : (aa k v : ℕ) (s : State) (r : Row) (l : List ℕ) → Ready 
     k < 11 → ReadyRow aa r (six k v 0 0 0 0) l
 unfolding rows
 input-ready aa k v s r l h e w b =
-    let u : valid bit v ≡ true = ap (valid bit) w ∙ bit-valid (inputAt s k) in
+    let u : valid bit v ≡ true = ap (valid bit) w ∙ valid-value (inputAt s k) in
     ready-row aa r _ _ l h e refl (both-true (lt-ltb k 11 b) (both-true u refl))
 
 pub input-put : {l l′ : List ℕ} {e : ℕ} (aa k v : ℕ) (s : State) (r : Row) → r ≡ rowOf 2 (Name Inputs) bit Next → v ≡ bitOf (inputAt s k) →

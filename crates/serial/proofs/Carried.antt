@@ -3,6 +3,7 @@
 use Prim.Native.Nat.{ℕ, _≤_}
 use mathlib.Core.Path.{_≡_, refl, sym, ap, _∙_}
 use lib.ListN.{length}
+use Rattle.laws.proofs.Tests.{choose-map}
 use Rattle.instruction.specs.declared.Cell.{Cell}
 use Rattle.machine.specs.Record.{cellAt, withState, inputAt, inEE}
 use Rattle.machine.specs.Milliseconds.{present}
@@ -17,7 +18,6 @@ use Rattle.events.specs.Present.{emergencyStopAt}
 use Rattle.replies.specs.Answers.{answerAt}
 use Rattle.replies.proofs.Lengths.{answer-short}
 use Rattle.serial.specs.Acting.{named, storedState, actedAt, cellsAfter}
-use Rattle.serial.proofs.Joins.{choose-map}
 
 -- the cell that a command names
 abbrev pub cellOf : Command → Machine → Cell

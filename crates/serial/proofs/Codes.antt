@@ -7,10 +7,10 @@ use mathlib.Core.List.{List}
 use lib.Dec.{eqb}
 use Rattle.laws.specs.Tests.{either}
 use Rattle.laws.specs.Text.{bytes}
+use Rattle.laws.proofs.Joins.{or-either}
 use Rattle.fields.specs.Names.{pairOf}
 use Rattle.machine.specs.Commands.{codeIn, hasCode}
 use Rattle.machine.specs.Strings.{isStop, toEvery, permitted}
-use Rattle.serial.proofs.Joins.{or-either}
 
 -- EE is 17733, ES 17747
 pub stop-code : (s : List ℕ) {k : ℕ} → codeIn s ≡ k → eqb k 17733 || eqb k 17747 ≡ isStop s

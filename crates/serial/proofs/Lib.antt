@@ -1,10 +1,6 @@
--- Matching: a definition by cases at a value that is known to be one of them. Joins: joined tests, as the code joins them, tests that the
--- code denies, and a choice under a function. Ends: a string that ends in byte 13 is not empty. Codes: the codes that the checks look for,
--- as one number each. Content: the numbers of two cells, compared one by one. Carried: what a command does and answers needs, of the
--- memory, only the cell that it names. Sound: what a sound drive says of that cell, and of what an answer shows. Told: what a string
--- leaves and answers, by whether it is heard.
-mod Matching
-mod Joins
+-- Ends: a string that ends in byte 13 is not empty. Codes: the codes that the checks look for, as one number each. Content: the numbers
+-- of two cells, compared one by one. Carried: what a command does and answers needs, of the memory, only the cell that it names. Sound:
+-- what a sound drive says of that cell, and of what an answer shows. Told: what a string leaves and answers, by whether it is heard.
 mod Ends
 mod Codes
 mod Content

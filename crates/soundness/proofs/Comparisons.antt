@@ -12,12 +12,12 @@ use mir.Val.{toZ, ofZ, Fits, SFits}
 use mir.Facts.{toZ-ofZ}
 use borrow.Author.Tests.{lt-ltb, le-leb}
 use Rattle.laws.specs.Tests.{both, same}
+use Rattle.laws.proofs.Joins.{and-both, both-end}
 use Rattle.units.specs.Remaining.{isNegativeOf}
 use Rattle.units.specs.declared.Steps.{Steps}
 use Rattle.units.specs.declared.position.Position.{Position}
 use Rattle.machine.specs.Soundness.{positionSound, loopCountSound, stepsRest, isStepsAlong}
 use Rattle.machine.specs.declared.Remaining.the-variants.{Counted}
-use Rattle.soundness.proofs.Joins.{and-both, both-end}
 
 within : (z : ℤ) → leZ (negsuc 33554427) z && leZ z (pos 33554428) ≡ leb (natAbs z) 33554428
 within (pos n) = refl

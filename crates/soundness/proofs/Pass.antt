@@ -13,13 +13,13 @@ use borrow.Author.Tests.{leb-true}
 use Rattle.laws.specs.Tests.{both}
 use Rattle.laws.specs.Tables.{every}
 use Rattle.laws.proofs.Tests.{both-right, choose-by, choose-true}
+use Rattle.laws.proofs.Joins.{and-as, both-assoc, both-end}
 use Rattle.units.specs.declared.CellAddress.{CellAddress}
 use Rattle.instruction.specs.Soundness.{cellSound}
 use Rattle.instruction.specs.declared.Cell.{Cell}
 use Rattle.machine.specs.Record.{nullCell, cellAt}
 use Rattle.machine.specs.Soundness.{isCell}
 use Rattle.soundness.specs.Places.{placeOf, Holds}
-use Rattle.soundness.proofs.Joins.{and-as, both-assoc, both-end}
 
 -- the cells that were passed, of which ok tells, and those that are left
 pub record Passed (xs : List Cell) (i : ℕ) (ok : Bool) : Type 0 where

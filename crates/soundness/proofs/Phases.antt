@@ -4,6 +4,7 @@ use mathlib.Core.Path.{_≡_}
 use mathlib.Core.Bool.{Bool, true, not}
 use lib.Dec.{eqb}
 use Rattle.laws.specs.Tests.{choose, both, either}
+use Rattle.laws.proofs.Telling.{told}
 use Rattle.instruction.specs.Runs.{profileOf}
 use Rattle.instruction.specs.declared.Instruction.{Instruction}
 use Rattle.instruction.specs.declared.run.Motion.{Motion}
@@ -13,7 +14,6 @@ use Rattle.machine.specs.Soundness.{hasPhase, emergencyRest, busyRest, markSoun
 use Rattle.machine.specs.declared.Remaining.{Remaining}
 use Rattle.machine.specs.declared.Phase.the-variants.{Run, Braking, Slowing, EmergencySlowing, BackOff}
 use Rattle.soundness.specs.Phases.{phaseSound}
-use Rattle.soundness.proofs.Telling.{told}
 
 -- given p, the profile of i, and m, how its run goes
 module _ (i : Instruction) (r : Remaining) (mark : Bool) {p : Profile} where

@@ -5,8 +5,8 @@ use Prim.Native.Nat.{_-_}
 use native.Mathlib.Omega.{arith}
 use mathlib.Core.Path.{sym, _∙_}
 use lib.ListN.{length-map}
+use Rattle.laws.proofs.Joins.{and-as}
 use Rattle.machine.specs.Soundness.{sound}
-use Rattle.soundness.proofs.Joins.{and-as}
 use Rattle.soundness.proofs.Pass.{Passed, pass-start, pass-step, pass-end, place-within, place-holds}
 use Rattle.soundness.proofs.sound.Statement.{statement}
 use Rattle.soundness.proofs.sound.Tie as tie

@@ -1,6 +1,6 @@
 -- `time::within` meets its contract: the two tests are the definition's.
 -- Assumes nothing.
-use Rattle.soundness.proofs.Joins.{and-both}
+use Rattle.laws.proofs.Joins.{and-both}
 use Rattle.drive.proofs.time.within.Statement.{statement}
 use Rattle.drive.proofs.time.within.Tie as tie
 

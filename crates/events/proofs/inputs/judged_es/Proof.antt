@@ -8,7 +8,7 @@ use Rattle.instruction.specs.Soundness.{stepsWithin}
 use Rattle.instruction.specs.declared.run.Profile.{Profile}
 use Rattle.machine.specs.Stopping.{freeRunStopIn}
 use Rattle.events.specs.Present.{judgedESAt}
-use Rattle.events.proofs.Cells.{steps-within}
+use Rattle.machine.proofs.Cells.{steps-within}
 use Rattle.events.proofs.inputs.judged_es.Statement.{statement}
 use Rattle.events.proofs.inputs.judged_es.Tie as tie
 

@@ -5,7 +5,7 @@ use mathlib.Core.Bool.{not}
 use borrow.Author.Needs.{needs}
 use borrow.Author.Tests.{not-true, not-false}
 use Rattle.laws.proofs.Tests.{both-true}
-use Rattle.events.proofs.Joins.{both-false-left, both-false-right, both-on}
+use Rattle.laws.proofs.Joins.{both-false-left, both-false-right, both-on}
 use Rattle.machine.specs.InputWords.{starts}
 use Rattle.events.proofs.inputs.starts.Statement.{statement}
 use Rattle.events.proofs.inputs.starts.Tie as tie

@@ -1,10 +1,10 @@
 -- `order` meets its contract: each arm is a clause of the definition.
 -- Assumes nothing.
 use mathlib.Core.Path.{ap}
+use Rattle.laws.proofs.Telling.{told}
 use Rattle.machine.specs.Orders.{orderIn}
 use Rattle.machine.specs.declared.Phase.{Phase}
 use Rattle.machine.specs.declared.answers.BoardOrder.the-variants.{Slow}
-use Rattle.events.proofs.Telling.{told}
 use Rattle.events.proofs.orders.order.Statement.{statement}
 use Rattle.events.proofs.orders.order.Tie as tie
 

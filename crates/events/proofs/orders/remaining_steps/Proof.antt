@@ -1,8 +1,8 @@
 -- `remaining_steps` meets its contract: each arm is a clause of the definition.
 -- Assumes nothing.
 use mathlib.Core.Path.{refl}
+use Rattle.laws.proofs.Telling.{told}
 use Rattle.machine.specs.Orders.{remainingSteps}
-use Rattle.events.proofs.Telling.{told}
 use Rattle.events.proofs.orders.remaining_steps.Statement.{statement}
 use Rattle.events.proofs.orders.remaining_steps.Tie as tie
 

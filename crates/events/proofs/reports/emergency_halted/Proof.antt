@@ -1,8 +1,8 @@
 -- `emergency_halted` meets its contract: each arm is a clause of the definition.
 -- Assumes nothing.
+use Rattle.laws.proofs.Telling.{told}
 use Rattle.instruction.specs.declared.run.Motion.{Motion}
 use Rattle.machine.specs.Reports.{haltedEmergency}
-use Rattle.events.proofs.Telling.{told}
 use Rattle.events.proofs.reports.emergency_halted.Statement.{statement}
 use Rattle.events.proofs.reports.emergency_halted.Tie as tie
 

@@ -1,9 +1,9 @@
 -- `halted` meets its contract: each arm is a clause of the definition.
 -- Assumes nothing.
 use mathlib.Core.Path.{refl}
+use Rattle.laws.proofs.Telling.{told}
 use Rattle.machine.specs.Reports.{haltedIn}
 use Rattle.machine.specs.declared.Phase.{Phase}
-use Rattle.events.proofs.Telling.{told}
 use Rattle.events.proofs.reports.halted.Statement.{statement}
 use Rattle.events.proofs.reports.halted.Tie as tie
 

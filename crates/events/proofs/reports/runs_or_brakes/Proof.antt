@@ -1,8 +1,8 @@
 -- `runs_or_brakes` meets its contract: each arm is a clause of the definition.
 -- Assumes nothing.
 use mathlib.Core.Path.{refl}
+use Rattle.laws.proofs.Telling.{told}
 use Rattle.machine.specs.Reports.{runsOrBrakes}
-use Rattle.events.proofs.Telling.{told}
 use Rattle.events.proofs.reports.runs_or_brakes.Statement.{statement}
 use Rattle.events.proofs.reports.runs_or_brakes.Tie as tie
 

@@ -1,8 +1,8 @@
 -- `arrived_in` meets its contract: each arm is a clause of the definition.
 -- Assumes nothing.
+use Rattle.laws.proofs.Telling.{told}
 use Rattle.machine.specs.Stepping.{arrivedIn}
 use Rattle.machine.specs.declared.Phase.{Phase}
-use Rattle.events.proofs.Telling.{told}
 use Rattle.events.proofs.stepping.arrived_in.Statement.{statement}
 use Rattle.events.proofs.stepping.arrived_in.Tie as tie
 

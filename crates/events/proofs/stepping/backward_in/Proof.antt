@@ -1,9 +1,9 @@
 -- `backward_in` meets its contract: each arm is a clause of the definition.
 -- Assumes nothing.
 use mathlib.Core.Path.{refl}
+use Rattle.laws.proofs.Telling.{told}
 use Rattle.machine.specs.Stepping.{backwardIn}
 use Rattle.machine.specs.declared.Phase.{Phase}
-use Rattle.events.proofs.Telling.{told}
 use Rattle.events.proofs.stepping.backward_in.Statement.{statement}
 use Rattle.events.proofs.stepping.backward_in.Tie as tie
 

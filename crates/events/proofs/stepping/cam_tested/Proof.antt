@@ -4,8 +4,8 @@ use mathlib.Core.Path.{sym}
 use borrow.Author.Needs.{needs}
 use borrow.Author.Tests.{eq-eqb, ne-eqb, not-true, not-false}
 use Rattle.laws.proofs.Tests.{choose-true, choose-false, both-true}
+use Rattle.laws.proofs.Joins.{both-false-left, both-false-right}
 use Rattle.machine.specs.Stepping.{camTested}
-use Rattle.events.proofs.Joins.{both-false-left, both-false-right}
 use Rattle.events.proofs.stepping.cam_tested.Statement.{statement}
 use Rattle.events.proofs.stepping.cam_tested.Tie as tie
 

@@ -1,9 +1,9 @@
 -- `counted` meets its contract: each arm is a clause of the definition.
 -- Assumes nothing.
 use mathlib.Core.Path.{refl}
+use Rattle.laws.proofs.Telling.{told}
 use Rattle.machine.specs.Stepping.{counted}
 use Rattle.machine.specs.declared.Remaining.{Remaining}
-use Rattle.events.proofs.Telling.{told}
 use Rattle.events.proofs.stepping.counted.Statement.{statement}
 use Rattle.events.proofs.stepping.counted.Tie as tie
 

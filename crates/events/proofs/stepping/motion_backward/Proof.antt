@@ -1,9 +1,9 @@
 -- `motion_backward` meets its contract: each arm is a clause of the definition.
 -- Assumes nothing.
 use mathlib.Core.Path.{refl}
+use Rattle.laws.proofs.Telling.{told}
 use Rattle.instruction.specs.declared.run.Motion.{Motion}
 use Rattle.machine.specs.Stepping.{motionBackward}
-use Rattle.events.proofs.Telling.{told}
 use Rattle.events.proofs.stepping.motion_backward.Statement.{statement}
 use Rattle.events.proofs.stepping.motion_backward.Tie as tie
 

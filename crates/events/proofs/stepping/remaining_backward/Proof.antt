@@ -1,8 +1,8 @@
 -- `remaining_backward` meets its contract: each arm is a clause of the definition.
 -- Assumes nothing.
 use mathlib.Core.Path.{refl}
+use Rattle.laws.proofs.Telling.{told}
 use Rattle.machine.specs.Stepping.{remainingBackward}
-use Rattle.events.proofs.Telling.{told}
 use Rattle.events.proofs.stepping.remaining_backward.Statement.{statement}
 use Rattle.events.proofs.stepping.remaining_backward.Tie as tie
 

@@ -1,9 +1,9 @@
 -- `free_run_stop` meets its contract: each arm is a clause of the definition.
 -- Assumes nothing.
 use mathlib.Core.Path.{refl}
+use Rattle.laws.proofs.Telling.{told}
 use Rattle.machine.specs.Stopping.{freeRunStopIn}
 use Rattle.machine.specs.declared.Phase.{Phase}
-use Rattle.events.proofs.Telling.{told}
 use Rattle.events.proofs.stopping.free_run_stop.Statement.{statement}
 use Rattle.events.proofs.stopping.free_run_stop.Tie as tie
 

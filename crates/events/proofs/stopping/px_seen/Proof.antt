@@ -1,9 +1,9 @@
 -- `px_seen` meets its contract: each arm is a clause of the definition.
 -- Assumes nothing.
 use mathlib.Core.Path.{refl}
+use Rattle.laws.proofs.Telling.{told}
 use Rattle.machine.specs.Stopping.{pxSeenIn}
 use Rattle.machine.specs.declared.Phase.{Phase}
-use Rattle.events.proofs.Telling.{told}
 use Rattle.events.proofs.stopping.px_seen.Statement.{statement}
 use Rattle.events.proofs.stopping.px_seen.Tie as tie
 

@@ -1,9 +1,9 @@
 -- `run_stopped` meets its contract: each arm is a clause of the definition.
 -- Assumes nothing.
 use mathlib.Core.Path.{refl}
+use Rattle.laws.proofs.Telling.{told}
 use Rattle.instruction.specs.declared.run.Motion.{Motion}
 use Rattle.machine.specs.Stopping.{freeRunStopOf}
-use Rattle.events.proofs.Telling.{told}
 use Rattle.events.proofs.stopping.run_stopped.Statement.{statement}
 use Rattle.events.proofs.stopping.run_stopped.Tie as tie
 

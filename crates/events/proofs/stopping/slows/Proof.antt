@@ -1,8 +1,8 @@
 -- `slows` meets its contract: each arm is a clause of the definition.
 -- Assumes nothing.
 use mathlib.Core.Path.{refl}
+use Rattle.laws.proofs.Telling.{told}
 use Rattle.machine.specs.Reports.{slows}
-use Rattle.events.proofs.Telling.{told}
 use Rattle.events.proofs.stopping.slows.Statement.{statement}
 use Rattle.events.proofs.stopping.slows.Tie as tie
 

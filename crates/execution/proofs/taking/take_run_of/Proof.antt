@@ -1,7 +1,7 @@
 -- `taking::take_run_of` meets its contract: the profile is the instruction's.
 -- Assumes nothing.
 use borrow.Author.Needs.{needs}
-use Rattle.execution.proofs.Cells.{steps-within}
+use Rattle.machine.proofs.Cells.{steps-within}
 use Rattle.execution.proofs.taking.take_run_of.Statement.{statement}
 use Rattle.execution.proofs.taking.take_run_of.Tie as tie
 

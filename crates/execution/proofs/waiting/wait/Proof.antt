@@ -8,8 +8,8 @@ use mathlib.Core.Path.{_≡_, sym, _∙_}
 use lib.ListN.{length}
 use borrow.Author.Needs.{needs}
 use Rattle.execution.proofs.Changes.{changed-known, place-known}
-use Rattle.execution.proofs.Waits.{place-cell, place-present, ran-idle, ran-moving, ran-spent, Waiting}
-use Rattle.execution.proofs.Waits.{waiting-start, waiting-step, waiting-skip, present-place, held-place, place-sound}
+use Rattle.machine.proofs.Places.{place-cell, place-present, place-sound, suspended-place, running-place}
+use Rattle.execution.proofs.Waits.{ran-idle, ran-moving, ran-spent, Waiting, waiting-start, waiting-step, waiting-skip}
 use Rattle.execution.proofs.waiting.wait.Statement.{statement}
 use Rattle.execution.proofs.waiting.wait.Tie as tie
 
@@ -102,19 +102,19 @@ place-requires c κs = search needs
 mul-cell : tie.Need-mul-cell Inv-loop μ-loop
 mul-cell c =
     let b = c .before .before .before .before .before .before .before .before in
-    omega (arith, present-place (b .before .before .loop .inv) (sym (b .before .idle .ensures) ∙ b .if1 .left) (c .place .ensures))
+    omega (arith, running-place _ _ (b .before .before .loop .inv .parts .running) (c .place .ensures))
 
 array-copy-out-cell : tie.Need-array-copy-out-cell Inv-loop μ-loop
 array-copy-out-cell c =
     let b = c .before .before .before .before .before .before .before .before in
-    present-place (b .before .before .loop .inv) (sym (b .before .idle .ensures) ∙ b .if1 .left) (c .place .ensures)
+    running-place _ _ (b .before .before .loop .inv .parts .running) (c .place .ensures)
 
 due-requires : tie.Need-due-requires Inv-loop μ-loop
 due-requires c κs =
     let b = c .before .before .before .before .before .before .before .before .before in
     let w = b .before .before .loop .inv in
     let i = sym (b .before .idle .ensures) ∙ b .if1 .left in
-    (i, place-sound w (present-place w i (c .before .place .ensures)))
+    (i, place-sound _ _ (w .memory .sound))
 
 add-n-2 : tie.Need-add-n-2 Inv-loop μ-loop
 add-n-2 c =
@@ -177,18 +177,19 @@ place-requires-2 c κs = search needs
 
 mul-held : tie.Need-mul-held Inv-loop μ-loop
 mul-held c =
-    omega (arith, held-place (c .before .before .before .before .before .before .before .before .before .before .before .before .before .before .before .before .loop .inv) (c .place2 .ensures))
+    let b = c .before .before .before .before .before .before .before .before .before .before .before .before .before .before .before in
+    omega (arith, suspended-place _ _ (b .before .loop .inv .parts .suspended) (c .place2 .ensures))
 
 array-copy-out-held : tie.Need-array-copy-out-held Inv-loop μ-loop
 array-copy-out-held c =
-    held-place (c .before .before .before .before .before .before .before .before .before .before .before .before .before .before .before .before .loop .inv) (c .place2 .ensures)
+    let b = c .before .before .before .before .before .before .before .before .before .before .before .before .before .before .before in
+    suspended-place _ _ (b .before .loop .inv .parts .suspended) (c .place2 .ensures)
 
 millisecond-requires : tie.Need-millisecond-requires Inv-loop μ-loop
 millisecond-requires c κs =
     let b = c .before .before .before .before .before .before .before .before .before .before .before .before .before .before .before in
     let w = b .before .before .loop .inv in
-    let p = present-place w (sym (b .before .idle .ensures) ∙ b .if1 .left) (c .before .before .before .before .before .before .before .place .ensures) in
-    (place-sound w p, place-sound w (held-place w (c .before .place2 .ensures)))
+    (place-sound _ _ (w .memory .sound), place-sound _ _ (w .memory .sound))
 
 loop-less-4 : tie.Need-loop-less-4 Inv-loop μ-loop
 loop-less-4 c =

@@ -5,10 +5,11 @@ use mathlib.Core.Path.{_≡_, refl, sym, ap, _∙_}
 use mathlib.Core.Bool.{false}
 use lib.Dec.{lit≤}
 use Rattle.laws.specs.Tests.{choose, either}
+use Rattle.laws.proofs.Telling.{Apart, unequal-apart}
 use Rattle.fields.specs.Rows.{kinds}
 use Rattle.instruction.specs.declared.format.Format.{Format}
 use Rattle.instruction.specs.Formats.{formats, fieldsIn, fieldsOf, knownIn, known, noFields, Formatted}
-use Rattle.instruction.proofs.TestsCodes.{Apart, codes, unequal-apart, fieldsIn-unequal, knownIn-unequal}
+use Rattle.instruction.proofs.TestsCodes.{codes, fieldsIn-unequal, knownIn-unequal}
 use Rattle.instruction.proofs.format.format_of.Statement.{statement}
 use Rattle.instruction.proofs.format.format_of.Tie as tie
 

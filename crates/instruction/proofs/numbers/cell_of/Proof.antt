@@ -5,12 +5,12 @@ use mathlib.Core.Path.{_≡_, refl, sym, ap, _∙_}
 use mathlib.Core.List.{List, [], _∷_}
 use lib.ListN.{getD}
 use Rattle.laws.specs.Tests.{choose}
+use Rattle.laws.proofs.Telling.{Apart, unequal-apart}
 use Rattle.units.specs.declared.CellAddress.{CellAddress}
 use Rattle.instruction.specs.declared.Cell.{Cell}
 use Rattle.instruction.specs.declared.Instruction.{Instruction}
 use Rattle.instruction.specs.declared.Instruction.the-variants.{Null, OpeningLoop, ClosingLoop, CurrentSetting}
 use Rattle.instruction.specs.Numbers.{cellWith, cellOf, withNext}
-use Rattle.instruction.proofs.TestsCodes.{Apart, unequal-apart}
 use borrow.Author.Needs.{needs}
 use Rattle.instruction.proofs.numbers.cell_of.Statement.{statement}
 use Rattle.instruction.proofs.numbers.cell_of.Tie as tie

@@ -1,7 +1,7 @@
 -- `sound::between` meets its contract: the width of the field does not matter.
 -- Assumes nothing.
+use Rattle.laws.proofs.Joins.{and-both}
 use Rattle.fields.specs.Kinds.{valid}
-use Rattle.instruction.proofs.TestsJoins.{and-both}
 use Rattle.instruction.proofs.sound.between.Statement.{statement}
 use Rattle.instruction.proofs.sound.between.Tie as tie
 

@@ -1,7 +1,7 @@
 -- `sound::is_next` meets its contract: 000, or what `between` tells.
 -- Assumes nothing.
+use Rattle.laws.proofs.Joins.{or-either}
 use Rattle.fields.specs.Kinds.{valid}
-use Rattle.instruction.proofs.TestsJoins.{or-either}
 use Rattle.instruction.proofs.sound.is_next.Statement.{statement}
 use Rattle.instruction.proofs.sound.is_next.Tie as tie
 

@@ -1,6 +1,6 @@
 -- `sound::ramped` meets its contract: both are what `between` tells.
 -- Assumes nothing.
-use Rattle.instruction.proofs.TestsJoins.{and-both}
+use Rattle.laws.proofs.Joins.{and-both}
 use Rattle.instruction.proofs.sound.ramped.Statement.{statement}
 use Rattle.instruction.proofs.sound.ramped.Tie as tie
 

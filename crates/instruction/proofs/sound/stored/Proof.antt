@@ -4,7 +4,7 @@ use mir.Syntax.{w32}
 use mir.Val.{Fits}
 use borrow.Author.Needs.{needs}
 use Rattle.laws.specs.Tests.{both}
-use Rattle.instruction.proofs.TestsJoins.{or-either}
+use Rattle.laws.proofs.Joins.{or-either}
 use Rattle.instruction.proofs.TestsFields.{valid-position}
 use Rattle.instruction.proofs.sound.stored.Statement.{statement}
 use Rattle.instruction.proofs.sound.stored.Tie as tie

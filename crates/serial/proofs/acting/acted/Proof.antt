@@ -5,11 +5,11 @@ use native.Mathlib.Omega.{arith}
 use mathlib.Core.Path.{_≡_, refl, sym, ap, _∙_}
 use mathlib.Core.Bool.{Bool, true}
 use borrow.Author.Tests.{ltb-true}
+use Rattle.laws.proofs.Telling.{told}
 use Rattle.machine.specs.Commands.{placed}
 use Rattle.machine.specs.declared.commands.Command.{Command}
 use Rattle.machine.specs.declared.commands.Command.the-variants.{SetOutput}
 use Rattle.serial.specs.Acting.{actedAt}
-use Rattle.serial.proofs.Matching.{at-case}
 use Rattle.serial.proofs.acting.acted.Statement.{statement}
 use Rattle.serial.proofs.acting.acted.Tie as tie
 
@@ -51,36 +51,36 @@ acted-spec =
     (λ c. c .match .keys16)
     (λ c. c .match .keys17)
     (λ c. let a = c .before .before .before .before .args in
-    at-case (λ (x : Command). actedAt x (a .state) (a .cell)) (c .before .before .command .given .1) (c .stored .ensures))
+    told (λ (x : Command). actedAt x (a .state) (a .cell)) (c .before .before .command .given .1) (c .stored .ensures))
     (λ c. let a = c .before .before .before .before .args in
-    at-case (λ (x : Command). actedAt x (a .state) (a .cell)) (c .before .before .command2 .given .1) (c .preset-stored .ensures))
+    told (λ (x : Command). actedAt x (a .state) (a .cell)) (c .before .before .command2 .given .1) (c .preset-stored .ensures))
     (λ c. let a = c .before .before .before .before .args in
-    at-case (λ (x : Command). actedAt x (a .state) (a .cell)) (c .before .before .command3 .given .1) (c .started-by .ensures))
+    told (λ (x : Command). actedAt x (a .state) (a .cell)) (c .before .before .command3 .given .1) (c .started-by .ensures))
     (λ c. let a = c .before .before .before .args in
-    at-case (λ (x : Command). actedAt x (a .state) (a .cell)) (c .before .enum-told .given .1) (c .emergency-stop .ensures))
+    told (λ (x : Command). actedAt x (a .state) (a .cell)) (c .before .enum-told .given .1) (c .emergency-stop .ensures))
     (λ c. let a = c .before .before .before .args in
-    at-case (λ (x : Command). actedAt x (a .state) (a .cell)) (c .before .enum-told2 .given .1) (c .run-stopped .ensures))
+    told (λ (x : Command). actedAt x (a .state) (a .cell)) (c .before .enum-told2 .given .1) (c .run-stopped .ensures))
     (λ c. let a = c .before .before .before .before .args in
-    at-case (λ (x : Command). actedAt x (a .state) (a .cell)) (c .before .before .command4 .given .1) (c .position-set .ensures))
+    told (λ (x : Command). actedAt x (a .state) (a .cell)) (c .before .before .command4 .given .1) (c .position-set .ensures))
     (λ c. let a = c .before .before .before .before .args in
-    at-case (λ (x : Command). actedAt x (a .state) (a .cell)) (c .before .before .command5 .given .1) (c .output-set .ensures))
+    told (λ (x : Command). actedAt x (a .state) (a .cell)) (c .before .before .command5 .given .1) (c .output-set .ensures))
     (λ c. let a = c .before .before .before .before .args in
-    at-case (λ (x : Command). actedAt x (a .state) (a .cell)) (c .before .before .command6 .given .1) (c .cam-set .ensures))
+    told (λ (x : Command). actedAt x (a .state) (a .cell)) (c .before .before .command6 .given .1) (c .cam-set .ensures))
     (λ c. let a = c .before .before .args in
-    at-case (λ (x : Command). actedAt x (a .state) (a .cell)) (c .enum-told3 .given .1) refl)
+    told (λ (x : Command). actedAt x (a .state) (a .cell)) (c .enum-told3 .given .1) refl)
     (λ c. let a = c .before .before .args in
-    at-case (λ (x : Command). actedAt x (a .state) (a .cell)) (c .enum-told4 .given .1) refl)
+    told (λ (x : Command). actedAt x (a .state) (a .cell)) (c .enum-told4 .given .1) refl)
     (λ c. let a = c .before .before .args in
-    at-case (λ (x : Command). actedAt x (a .state) (a .cell)) (c .enum-told5 .given .1) refl)
+    told (λ (x : Command). actedAt x (a .state) (a .cell)) (c .enum-told5 .given .1) refl)
     (λ c. let a = c .before .before .args in
-    at-case (λ (x : Command). actedAt x (a .state) (a .cell)) (c .enum-told6 .given .1) refl)
+    told (λ (x : Command). actedAt x (a .state) (a .cell)) (c .enum-told6 .given .1) refl)
     (λ c. let a = c .before .before .args in
-    at-case (λ (x : Command). actedAt x (a .state) (a .cell)) (c .enum-told7 .given .1) refl)
+    told (λ (x : Command). actedAt x (a .state) (a .cell)) (c .enum-told7 .given .1) refl)
     (λ c. let a = c .before .before .args in
-    at-case (λ (x : Command). actedAt x (a .state) (a .cell)) (c .enum-told8 .given .1) refl)
+    told (λ (x : Command). actedAt x (a .state) (a .cell)) (c .enum-told8 .given .1) refl)
     (λ c. let a = c .before .before .args in
-    at-case (λ (x : Command). actedAt x (a .state) (a .cell)) (c .enum-told9 .given .1) refl)
+    told (λ (x : Command). actedAt x (a .state) (a .cell)) (c .enum-told9 .given .1) refl)
     (λ c. let a = c .before .before .args in
-    at-case (λ (x : Command). actedAt x (a .state) (a .cell)) (c .enum-told10 .given .1) refl)
+    told (λ (x : Command). actedAt x (a .state) (a .cell)) (c .enum-told10 .given .1) refl)
     (λ c. let a = c .before .before .args in
-    at-case (λ (x : Command). actedAt x (a .state) (a .cell)) (c .enum-told11 .given .1) refl))
+    told (λ (x : Command). actedAt x (a .state) (a .cell)) (c .enum-told11 .given .1) refl))

@@ -3,8 +3,8 @@
 use mathlib.Core.Path.{refl}
 use borrow.Author.Tests.{ne-eqb}
 use Rattle.laws.specs.Tests.{choose}
+use Rattle.laws.proofs.Telling.{told}
 use Rattle.machine.specs.Strings.{resolutionAt}
-use Rattle.serial.proofs.Matching.{at-case}
 use Rattle.serial.proofs.acting.resolution_at.Statement.{statement}
 use Rattle.serial.proofs.acting.resolution_at.Tie as tie
 
@@ -13,13 +13,13 @@ unfolding resolutionAt choose
 resolution-at-spec =
     tie.close
     (tie.spec
-    (λ c. at-case resolutionAt (c .match .keys1) refl)
-    (λ c. at-case resolutionAt (c .match .keys2) refl)
-    (λ c. at-case resolutionAt (c .match .keys3) refl)
-    (λ c. at-case resolutionAt (c .match .keys4) refl)
-    (λ c. at-case resolutionAt (c .match .keys5) refl)
-    (λ c. at-case resolutionAt (c .match .keys6) refl)
-    (λ c. at-case resolutionAt (c .match .keys7) refl)
+    (λ c. told resolutionAt (c .match .keys1) refl)
+    (λ c. told resolutionAt (c .match .keys2) refl)
+    (λ c. told resolutionAt (c .match .keys3) refl)
+    (λ c. told resolutionAt (c .match .keys4) refl)
+    (λ c. told resolutionAt (c .match .keys5) refl)
+    (λ c. told resolutionAt (c .match .keys6) refl)
+    (λ c. told resolutionAt (c .match .keys7) refl)
     (λ c. let n = c .match .rest in
     simp (
       ne-eqb _ 0 (n .0 .0 .0 .0 .0 .0 .1),

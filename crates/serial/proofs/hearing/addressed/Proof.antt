@@ -2,8 +2,8 @@
 -- Assumes nothing.
 use mathlib.Core.Path.{ap, _∙_}
 use Rattle.laws.specs.Tests.{both}
+use Rattle.laws.proofs.Joins.{or-either, fails, passes}
 use Rattle.machine.specs.Strings.{isDigit, addressed}
-use Rattle.serial.proofs.Joins.{or-either, fails, passes}
 use Rattle.serial.proofs.hearing.addressed.Statement.{statement}
 use Rattle.serial.proofs.hearing.addressed.Tie as tie
 

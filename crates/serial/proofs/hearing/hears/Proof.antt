@@ -5,8 +5,8 @@ use mathlib.Core.Path.{sym}
 use lib.ListN.{length-take}
 use borrow.Author.Needs.{needs}
 use Rattle.laws.specs.Tests.{both}
+use Rattle.laws.proofs.Joins.{fails, passes}
 use Rattle.machine.specs.Strings.{bodyOf}
-use Rattle.serial.proofs.Joins.{fails, passes}
 use Rattle.serial.proofs.Ends.{ended-length}
 use Rattle.serial.proofs.hearing.hears.Statement.{statement}
 use Rattle.serial.proofs.hearing.hears.Tie as tie

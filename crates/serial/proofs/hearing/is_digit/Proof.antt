@@ -1,7 +1,7 @@
 -- `is_digit` meets its contract: its tests are the definition's.
 -- Assumes nothing.
+use Rattle.laws.proofs.Joins.{and-both}
 use Rattle.machine.specs.Strings.{isDigit}
-use Rattle.serial.proofs.Joins.{and-both}
 use Rattle.serial.proofs.hearing.is_digit.Statement.{statement}
 use Rattle.serial.proofs.hearing.is_digit.Tie as tie
 

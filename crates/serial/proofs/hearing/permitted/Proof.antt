@@ -1,8 +1,8 @@
 -- `permitted` meets its contract: to every drive, its numbers are the codes WS, EE and ES.
 -- Assumes nothing.
 use Rattle.laws.specs.Tests.{either}
+use Rattle.laws.proofs.Joins.{fails, passes}
 use Rattle.machine.specs.Strings.{permitted}
-use Rattle.serial.proofs.Joins.{fails, passes}
 use Rattle.serial.proofs.Codes.{permitted-code}
 use Rattle.serial.proofs.hearing.permitted.Statement.{statement}
 use Rattle.serial.proofs.hearing.permitted.Tie as tie

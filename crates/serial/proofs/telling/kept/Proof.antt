@@ -10,6 +10,7 @@ use denote.Enum.Declared.{tagOf}
 use types.Run.{OneOf, miss}
 use borrow.Author.Needs.{needs}
 use Rattle.laws.proofs.Tests.{both-left}
+use Rattle.laws.proofs.Telling.{told}
 use Rattle.units.specs.declared.CellAddress.{CellAddress}
 use Rattle.instruction.specs.declared.Cell.{Cell}
 use Rattle.machine.specs.Record.{storedAt}
@@ -21,7 +22,6 @@ use Rattle.machine.specs.declared.commands.Command.the-variants.{Store, SetPres
 use Rattle.machine.proofs.Cells.{cell-to}
 use Rattle.machine.proofs.commands.Command.{the-type}
 use Rattle.serial.specs.Acting.{cellsAfter}
-use Rattle.serial.proofs.Matching.{at-case}
 use Rattle.serial.proofs.telling.kept.Statement.{statement}
 use Rattle.serial.proofs.telling.kept.Tie as tie
 
@@ -69,7 +69,7 @@ kept-spec =
     (λ c. omega (arith, c .place .ensures, store-to (c .before .before .command .given .1) (c .before .before .before .before .pre)))
     (λ c. let a = c .before .before .before .before .args in
     ap (machineOf (a .state))
-    (at-case (λ (k : Command). cellsAfter k (a .t1 .cells)) (c .before .before .command .given .1)
+    (told (λ (k : Command). cellsAfter k (a .t1 .cells)) (c .before .before .command .given .1)
     (ap (λ (i : ℕ). set (a .t1 .cells) i (c .before .before .command .given .0 .1 .0)) (c .place .ensures))))
     (λ c. let a = c .before .args in
     ap (machineOf (a .state)) (cells-left (a .command) (a .t1 .cells) (c .match .keys2))))

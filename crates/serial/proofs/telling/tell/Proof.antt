@@ -5,9 +5,9 @@ use mathlib.Core.Path.{sym, ap}
 use lib.ListN.{length, length-take}
 use borrow.Author.Needs.{needs}
 use Rattle.laws.proofs.Tests.{both-left, both-right}
+use Rattle.laws.proofs.Joins.{fails, passes}
 use Rattle.machine.specs.Strings.{Heard, bodyOf}
 use Rattle.machine.specs.Operations.{filled}
-use Rattle.serial.proofs.Joins.{fails, passes}
 use Rattle.serial.proofs.Ends.{ended-length}
 use Rattle.serial.proofs.Told.{told-silent, told-machine, told-filled}
 use Rattle.serial.proofs.telling.tell.Statement.{statement}

@@ -2,9 +2,9 @@
 -- Assumes nothing.
 use mathlib.Core.Path.{sym, _∙_}
 use borrow.Author.Needs.{needs}
+use Rattle.laws.proofs.Joins.{or-either}
 use Rattle.machine.specs.Soundness.{camSound}
 use Rattle.soundness.proofs.Comparisons.{position-pass}
-use Rattle.soundness.proofs.Joins.{or-either}
 use Rattle.soundness.proofs.ranges.cam_sound.Statement.{statement}
 use Rattle.soundness.proofs.ranges.cam_sound.Tie as tie
 

@@ -3,8 +3,8 @@
 use mathlib.Core.Path.{sym}
 use borrow.Author.Tests.{eq-eqb, ne-eqb}
 use Rattle.laws.proofs.Tests.{choose-true, choose-false}
+use Rattle.laws.proofs.Joins.{and-both}
 use Rattle.machine.specs.Soundness.{faultSound}
-use Rattle.soundness.proofs.Joins.{and-both}
 use Rattle.soundness.proofs.ranges.fault_sound.Statement.{statement}
 use Rattle.soundness.proofs.ranges.fault_sound.Tie as tie
 

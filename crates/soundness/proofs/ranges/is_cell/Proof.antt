@@ -1,7 +1,7 @@
 -- `ranges::is_cell` meets its contract: the two tests are the definition's.
 -- Assumes nothing.
+use Rattle.laws.proofs.Joins.{and-both}
 use Rattle.machine.specs.Soundness.{isCell}
-use Rattle.soundness.proofs.Joins.{and-both}
 use Rattle.soundness.proofs.ranges.is_cell.Statement.{statement}
 use Rattle.soundness.proofs.ranges.is_cell.Tie as tie
 

@@ -1,7 +1,7 @@
 -- `ranges::presets_sound` meets its contract: the two tests are the definition's.
 -- Assumes nothing.
+use Rattle.laws.proofs.Joins.{and-both}
 use Rattle.machine.specs.Soundness.{presetsSound}
-use Rattle.soundness.proofs.Joins.{and-both}
 use Rattle.soundness.proofs.ranges.presets_sound.Statement.{statement}
 use Rattle.soundness.proofs.ranges.presets_sound.Tie as tie
 

@@ -1,8 +1,8 @@
 -- `remaining::is_nothing` meets its contract: each arm is a clause of the definition.
 -- Assumes nothing.
 use mathlib.Core.Path.{refl}
+use Rattle.laws.proofs.Telling.{told}
 use Rattle.machine.specs.Soundness.{isNothing}
-use Rattle.soundness.proofs.Telling.{told}
 use Rattle.soundness.proofs.remaining.is_nothing.Statement.{statement}
 use Rattle.soundness.proofs.remaining.is_nothing.Tie as tie
 

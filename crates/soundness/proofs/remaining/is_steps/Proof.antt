@@ -1,8 +1,8 @@
 -- `remaining::is_steps` meets its contract: each arm is a clause of the definition.
 -- Assumes nothing.
 use mathlib.Core.Path.{refl}
+use Rattle.laws.proofs.Telling.{told}
 use Rattle.machine.specs.Soundness.{isSteps}
-use Rattle.soundness.proofs.Telling.{told}
 use Rattle.soundness.proofs.remaining.is_steps.Statement.{statement}
 use Rattle.soundness.proofs.remaining.is_steps.Tie as tie
 

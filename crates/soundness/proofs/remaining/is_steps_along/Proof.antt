@@ -1,9 +1,9 @@
 -- `remaining::is_steps_along` meets its contract: each arm is a clause of the definition.
 -- Assumes nothing.
 use mathlib.Core.Path.{refl}
+use Rattle.laws.proofs.Telling.{told}
 use Rattle.machine.specs.Soundness.{isStepsAlong}
 use Rattle.soundness.proofs.Comparisons.{steps-along}
-use Rattle.soundness.proofs.Telling.{told}
 use Rattle.soundness.proofs.remaining.is_steps_along.Statement.{statement}
 use Rattle.soundness.proofs.remaining.is_steps_along.Tie as tie
 

@@ -1,8 +1,8 @@
 -- `remaining::is_time` meets its contract: each arm is a clause of the definition.
 -- Assumes nothing.
 use mathlib.Core.Path.{refl}
+use Rattle.laws.proofs.Telling.{told}
 use Rattle.machine.specs.Soundness.{isTime}
-use Rattle.soundness.proofs.Telling.{told}
 use Rattle.soundness.proofs.remaining.is_time.Statement.{statement}
 use Rattle.soundness.proofs.remaining.is_time.Tie as tie
 

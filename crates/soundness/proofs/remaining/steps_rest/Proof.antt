@@ -1,8 +1,8 @@
 -- `remaining::steps_rest` meets its contract: the number is read back from its bits.
 -- Assumes nothing.
 use borrow.Author.Needs.{needs}
+use Rattle.laws.proofs.Joins.{and-both}
 use Rattle.machine.specs.Soundness.{stepsRest}
-use Rattle.soundness.proofs.Joins.{and-both}
 use Rattle.soundness.proofs.Comparisons.{within-bits}
 use Rattle.soundness.proofs.remaining.steps_rest.Statement.{statement}
 use Rattle.soundness.proofs.remaining.steps_rest.Tie as tie

@@ -2,8 +2,8 @@
 -- Assumes nothing.
 use mathlib.Core.Path.{refl}
 use Rattle.laws.specs.Tests.{both}
+use Rattle.laws.proofs.Joins.{and-as}
 use Rattle.machine.specs.Soundness.{brakingPhase}
-use Rattle.soundness.proofs.Joins.{and-as}
 use Rattle.soundness.proofs.Phases.{braking-by}
 use Rattle.soundness.proofs.running.braking_sound.Statement.{statement}
 use Rattle.soundness.proofs.running.braking_sound.Tie as tie

@@ -4,10 +4,10 @@ use mathlib.Core.Path.{sym, _∙_}
 use mir.Syntax.{w16}
 use mir.Val.{Fits}
 use borrow.Author.Needs.{needs}
+use Rattle.laws.proofs.Joins.{and-as}
 use Rattle.machine.specs.Soundness.{busySound}
 use Rattle.soundness.specs.Phases.{phaseSound}
 use Rattle.soundness.proofs.Comparisons.{loops-pass}
-use Rattle.soundness.proofs.Joins.{and-as}
 use Rattle.soundness.proofs.running.busy_sound.Statement.{statement}
 use Rattle.soundness.proofs.running.busy_sound.Tie as tie
 

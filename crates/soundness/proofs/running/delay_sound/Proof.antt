@@ -1,9 +1,9 @@
 -- `running::delay_sound` meets its contract: the three tests are the definition's.
 -- Assumes nothing.
 use mathlib.Core.Path.{refl, _∙_}
+use Rattle.laws.proofs.Joins.{and-as, both-assoc}
 use Rattle.machine.specs.Soundness.{hasPhase, busyRest, markSound}
 use Rattle.soundness.specs.Phases.{phaseSound}
-use Rattle.soundness.proofs.Joins.{and-as, both-assoc}
 use Rattle.soundness.proofs.running.delay_sound.Statement.{statement}
 use Rattle.soundness.proofs.running.delay_sound.Tie as tie
 

@@ -1,9 +1,9 @@
 -- `running::emergency_rest` meets its contract: each arm is a clause of the definition.
 -- Assumes nothing.
+use Rattle.laws.proofs.Joins.{or-as}
+use Rattle.laws.proofs.Telling.{told}
 use Rattle.instruction.specs.declared.run.Motion.{Motion}
 use Rattle.machine.specs.Soundness.{emergencyRest}
-use Rattle.soundness.proofs.Joins.{or-as}
-use Rattle.soundness.proofs.Telling.{told}
 use Rattle.soundness.proofs.running.emergency_rest.Statement.{statement}
 use Rattle.soundness.proofs.running.emergency_rest.Tie as tie
 

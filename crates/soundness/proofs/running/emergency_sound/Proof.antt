@@ -1,7 +1,7 @@
 -- `running::emergency_sound` meets its contract: the ramp, and what remains.
 -- Assumes nothing.
 use mathlib.Core.Path.{refl, sym, _∙_}
-use Rattle.soundness.proofs.Joins.{and-as, both-end}
+use Rattle.laws.proofs.Joins.{and-as, both-end}
 use Rattle.soundness.proofs.Phases.{emergency-by}
 use Rattle.soundness.proofs.running.emergency_sound.Statement.{statement}
 use Rattle.soundness.proofs.running.emergency_sound.Tie as tie

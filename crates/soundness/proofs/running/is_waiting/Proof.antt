@@ -1,8 +1,8 @@
 -- `running::is_waiting` meets its contract: each arm is a clause of the definition.
 -- Assumes nothing.
 use mathlib.Core.Path.{refl}
+use Rattle.laws.proofs.Telling.{told}
 use Rattle.machine.specs.Soundness.{isWaiting}
-use Rattle.soundness.proofs.Telling.{told}
 use Rattle.soundness.proofs.running.is_waiting.Statement.{statement}
 use Rattle.soundness.proofs.running.is_waiting.Tie as tie
 

@@ -2,11 +2,11 @@
 -- Assumes nothing.
 use mathlib.Core.Path.{refl}
 use Rattle.laws.specs.Tests.{both}
+use Rattle.laws.proofs.Joins.{and-as}
+use Rattle.laws.proofs.Telling.{told}
 use Rattle.machine.specs.Soundness.{hasPhase, busyRest, markSound}
 use Rattle.machine.specs.declared.Phase.{Phase}
 use Rattle.soundness.specs.Phases.{phaseSound}
-use Rattle.soundness.proofs.Joins.{and-as}
-use Rattle.soundness.proofs.Telling.{told}
 use Rattle.soundness.proofs.running.phase_sound.Statement.{statement}
 use Rattle.soundness.proofs.running.phase_sound.Tie as tie
 

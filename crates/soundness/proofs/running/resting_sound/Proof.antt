@@ -1,8 +1,8 @@
 -- `running::resting_sound` meets its contract: the four tests are the definition's.
 -- Assumes nothing.
 use mathlib.Core.Path.{refl, _∙_}
+use Rattle.laws.proofs.Joins.{and-as, both-assoc}
 use Rattle.machine.specs.Soundness.{restingSound}
-use Rattle.soundness.proofs.Joins.{and-as, both-assoc}
 use Rattle.soundness.proofs.running.resting_sound.Statement.{statement}
 use Rattle.soundness.proofs.running.resting_sound.Tie as tie
 

@@ -2,8 +2,8 @@
 -- Assumes nothing.
 use mathlib.Core.Path.{refl}
 use Rattle.laws.specs.Tests.{choose, both}
+use Rattle.laws.proofs.Joins.{and-as, or-either}
 use Rattle.machine.specs.Soundness.{isIndexed, runPhase}
-use Rattle.soundness.proofs.Joins.{and-as, or-either}
 use Rattle.soundness.proofs.Phases.{run-by}
 use Rattle.soundness.proofs.running.run_sound.Statement.{statement}
 use Rattle.soundness.proofs.running.run_sound.Tie as tie

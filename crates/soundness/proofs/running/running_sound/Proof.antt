@@ -4,10 +4,10 @@ use mathlib.Core.Path.{_≡_, sym, _∙_}
 use mathlib.Core.Bool.{true}
 use borrow.Author.Tests.{eq-eqb, ne-eqb}
 use Rattle.laws.proofs.Tests.{choose-true, choose-false}
+use Rattle.laws.proofs.Joins.{both-under}
 use Rattle.instruction.specs.declared.Instruction.{Instruction}
 use Rattle.machine.specs.Soundness.{isCell, busySound, runningSound}
 use Rattle.machine.specs.declared.Running.{Running}
-use Rattle.soundness.proofs.Joins.{both-under}
 use Rattle.soundness.proofs.running.running_sound.Statement.{statement}
 use Rattle.soundness.proofs.running.running_sound.Tie as tie
 

@@ -2,8 +2,8 @@
 -- Assumes nothing.
 use mathlib.Core.Path.{refl, sym, _∙_}
 use Rattle.laws.specs.Tests.{both}
+use Rattle.laws.proofs.Joins.{and-as, both-end}
 use Rattle.machine.specs.Soundness.{hasRamp, slowingPhase}
-use Rattle.soundness.proofs.Joins.{and-as, both-end}
 use Rattle.soundness.proofs.Phases.{slowing-by}
 use Rattle.soundness.proofs.running.slowing_sound.Statement.{statement}
 use Rattle.soundness.proofs.running.slowing_sound.Tie as tie

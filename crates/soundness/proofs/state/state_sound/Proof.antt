@@ -5,9 +5,9 @@ use mir.Syntax.{w32}
 use mir.Val.{Fits}
 use borrow.Author.Needs.{needs}
 use Rattle.laws.specs.Tests.{both}
+use Rattle.laws.proofs.Joins.{and-as, both-assoc}
 use Rattle.machine.specs.Soundness.{stateSound}
 use Rattle.soundness.proofs.Comparisons.{position-pass}
-use Rattle.soundness.proofs.Joins.{and-as, both-assoc}
 use Rattle.soundness.proofs.state.state_sound.Statement.{statement}
 use Rattle.soundness.proofs.state.state_sound.Tie as tie
 

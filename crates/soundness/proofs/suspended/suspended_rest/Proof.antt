@@ -1,10 +1,10 @@
 -- `suspended::suspended_rest` meets its contract: each arm is a clause of the definition.
 -- Assumes nothing.
 use mathlib.Core.Path.{refl}
+use Rattle.laws.proofs.Joins.{and-as}
+use Rattle.laws.proofs.Telling.{told}
 use Rattle.machine.specs.Soundness.{suspendedRest}
 use Rattle.machine.specs.declared.Remaining.{Remaining}
-use Rattle.soundness.proofs.Joins.{and-as}
-use Rattle.soundness.proofs.Telling.{told}
 use Rattle.soundness.proofs.suspended.suspended_rest.Statement.{statement}
 use Rattle.soundness.proofs.suspended.suspended_rest.Tie as tie
 

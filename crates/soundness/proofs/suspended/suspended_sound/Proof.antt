@@ -6,9 +6,9 @@ use mir.Val.{Fits}
 use borrow.Author.Needs.{needs}
 use borrow.Author.Tests.{eq-eqb, ne-eqb}
 use Rattle.laws.proofs.Tests.{choose-true, choose-false}
+use Rattle.laws.proofs.Joins.{and-as, both-under}
 use Rattle.machine.specs.Soundness.{suspendedRest, suspendedSound}
 use Rattle.soundness.proofs.Comparisons.{loops-pass}
-use Rattle.soundness.proofs.Joins.{and-as, both-under}
 use Rattle.soundness.proofs.suspended.suspended_sound.Statement.{statement}
 use Rattle.soundness.proofs.suspended.suspended_sound.Tie as tie
 

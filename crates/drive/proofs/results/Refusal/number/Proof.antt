@@ -1,7 +1,7 @@
 -- `Refusal::number` meets its contract: each arm is a clause of the definition.
 -- Assumes nothing.
 use mathlib.Core.Path.{refl}
-use Rattle.soundness.proofs.Telling.{told}
+use Rattle.laws.proofs.Telling.{told}
 use Rattle.drive.specs.Results.{numberOf}
 use Rattle.drive.proofs.results.Refusal.number.Statement.{statement}
 use Rattle.drive.proofs.results.Refusal.number.Tie as tie
