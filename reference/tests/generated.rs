@@ -1,6 +1,8 @@
 //! What holds of every call, over thousands of generated scripts; and, in `coverage`, that the
 //! scripts reach what they are made to reach.
 
+#[path = "generated/alike.rs"]
+mod alike;
 #[path = "common/coverage.rs"]
 mod coverage;
 #[path = "common/rebuild.rs"]

@@ -86,7 +86,8 @@ fn bytes(hex: &str) -> Vec<u8> {
     digits.map(|pair| byte(pair).expect("two hex digits")).collect()
 }
 
-fn carry_out(drive: &mut Drive, call: &Call) -> Seen {
+/// One call, and what it showed.
+pub fn carry_out(drive: &mut Drive, call: &Call) -> Seen {
     match call {
         Call::Fresh(address) => plain(Drive::fresh(*address).map(|fresh| *drive = fresh)),
         Call::String { bytes, length, fill } => say(drive, bytes, *length, *fill),
