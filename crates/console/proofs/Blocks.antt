@@ -15,7 +15,7 @@ use Rattle.drive.specs.declared.Drive.{Drive}
 use Rattle.lines.specs.Strings.{given}
 use Rattle.console.specs.Console.{afterString, Standing, standing, byteTaken, console}
 use Rattle.console.specs.Serving.{Alike, Serves, Continues}
-use Rattle.console.specs.declared.Session.{Session}
+use Rattle.console.specs.declared.Exchange.{Exchange}
 use Rattle.console.specs.declared.serving.Served.{Served}
 
 -- of what is held the first 64 bytes count, also when more comes
@@ -88,7 +88,7 @@ reading-first block l m n h k = record { place = omega arith; string = h; kept =
 
 -- after a part
 pub reading-next :
-    {block : List ℕ} {c : Standing} {l : List ℕ} {m : Machine} {n at : ℕ} (l′ : List ℕ) (end : ℕ) (r : Session) → Reading block c l m n at → at ≤ end →
+    {block : List ℕ} {c : Standing} {l : List ℕ} {m : Machine} {n at : ℕ} (l′ : List ℕ) (end : ℕ) (r : Exchange) → Reading block c l m n at → at ≤ end →
     end ≤ length block → Continues (console (take (end - at) (drop at block)) (standing m (take n l) [])) l′ r → length l′ ≡ 65 →
     Reading block c l′ (r .drive .machine) (r .length) end
 reading-next {block} {c} {l} {m} {n} {at} l′ end r g h f k e =
@@ -119,6 +119,6 @@ reading-last {block} {c} {l} {n} {at} d b g h = record { alike = subst (λ (x : 
         let i : at ≡ length block = omega (arith, g .place) in
         ap (λ (x : List ℕ). console x (standing (d .machine) (take n l) [])) (ap (λ (k : ℕ). drop k block) i ∙ drop-length block)
 
--- a session that has ended does not go on
+-- an exchange that has ended does not go on
 pub ended : {b : Bool} → b ≡ false → b ≡ true → ⊥
 ended {b} p q = let z : _≡_ {A = ℕ} 0 1 = cc in omega arith

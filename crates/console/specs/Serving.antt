@@ -7,7 +7,7 @@ use lib.ListN.{length, take}
 use Rattle.laws.specs.Writing.{Put}
 use Rattle.machine.specs.declared.Machine.{Machine}
 use Rattle.console.specs.Console.{answerTo, afterString, Standing, standing}
-use Rattle.console.specs.declared.Session.{Session}
+use Rattle.console.specs.declared.Exchange.{Exchange}
 use Rattle.console.specs.declared.serving.Answered.{Answered}
 use Rattle.console.specs.declared.serving.Served.{Served}
 
@@ -37,7 +37,7 @@ pub record Alike (c d : Standing) : Type 0 where
   pub machine : c .machine ≡ d .machine
   pub held : take 64 (c .held) ≡ take 64 (d .held)
 
--- from the standing c the console goes on as from the session r, with its string at the front of l
-pub record Continues (c : Standing) (l : List ℕ) (r : Session) : Type 0 where
+-- from the standing c the console goes on as from the exchange r, with its string at the front of l
+pub record Continues (c : Standing) (l : List ℕ) (r : Exchange) : Type 0 where
   pub alike : Alike c (standing (r .drive .machine) (take (r .length) l) [])
   pub within : r .length ≤ 64

@@ -21,14 +21,14 @@ const STANDARD_INPUT: i32 = 0;
 const STANDARD_OUTPUT: i32 = 1;
 
 // The drive, how many bytes there are of the string under way, and whether to go on.
-pub struct Session {
+pub struct Exchange {
     pub drive: Drive,
     pub length: usize,
     pub going: bool,
 }
 
 // Answers the strings that a part of the input completes.
-fn answer_part(drive: Drive, string: &mut [u8], n: usize, part: &[u8]) -> Session
+fn answer_part(drive: Drive, string: &mut [u8], n: usize, part: &[u8]) -> Exchange
     requires { ⌜ (length (now string) ≡ 65) × ((n ≤ 64) × (length (now part) ≤ 1024)) ⌝ }
     ensures { λ r. ⌜ Continues
         (console (now (part .entry)) (standing (drive .machine) (take n (now (string .entry))) []))
@@ -37,7 +37,7 @@ fn answer_part(drive: Drive, string: &mut [u8], n: usize, part: &[u8]) -> Sessio
     let mut out = io::large_buffer();
     let served = serve(drive, string, n, part, &mut out);
     let next = served.drive;
-    Session {
+    Exchange {
         drive: next,
         length: served.length,
         going: io::write_all(STANDARD_OUTPUT, front(&out, served.written)),
@@ -45,8 +45,8 @@ fn answer_part(drive: Drive, string: &mut [u8], n: usize, part: &[u8]) -> Sessio
 }
 
 // Answers the strings that a block of input completes, 1,024 bytes at a time: 64 bytes of answer
-// to each fit the output's buffer. An output that takes no more closes the session.
-fn answer_block(drive: Drive, string: &mut [u8], n: usize, block: &[u8]) -> Session
+// to each fit the output's buffer. An output that takes no more closes the exchange.
+fn answer_block(drive: Drive, string: &mut [u8], n: usize, block: &[u8]) -> Exchange
     requires { ⌜ (length (now string) ≡ 65) × (n ≤ 64) ⌝ }
     ensures { λ r. ⌜ (r .going ≡ true → Continues
         (console (now (block .entry)) (standing (drive .machine) (take n (now (string .entry))) []))
@@ -57,25 +57,25 @@ fn answer_block(drive: Drive, string: &mut [u8], n: usize, block: &[u8]) -> Sess
     let mut at = 0;
     while at < block.len() {
         let end = at + least(1024, block.len() - at);
-        let session = answer_part(drive, string, length, &block[at..end]);
-        if !session.going {
-            return session;
+        let exchange = answer_part(drive, string, length, &block[at..end]);
+        if !exchange.going {
+            return exchange;
         }
-        drive = session.drive;
-        length = session.length;
+        drive = exchange.drive;
+        length = exchange.length;
         at = end;
     }
-    Session {
+    Exchange {
         drive,
         length,
         going: true,
     }
 }
 
-fn closed(drive: Drive) -> Session
+fn closed(drive: Drive) -> Exchange
     ensures { λ r. ⌜ r .going ≡ false ⌝ }
 {
-    Session {
+    Exchange {
         drive,
         length: 0,
         going: false,
@@ -83,7 +83,7 @@ fn closed(drive: Drive) -> Session
 }
 
 // Reads once, and answers what came. The end of the input, or a read that fails, closes.
-fn read_block(drive: Drive, string: &mut [u8], n: usize) -> Session
+fn read_block(drive: Drive, string: &mut [u8], n: usize) -> Exchange
     requires { ⌜ (length (now string) ≡ 65) × (n ≤ 64) ⌝ }
     ensures { λ r. ⌜ (r .going ≡ true → r .length ≤ 64) ⌝ }
 {
@@ -104,12 +104,12 @@ fn run(drive: Drive) {
     let mut length = 0;
     let mut turns: u64 = 0x4000_0000_0000_0000;
     while 0 < turns {
-        let session = read_block(drive, &mut string, length);
-        if !session.going {
+        let exchange = read_block(drive, &mut string, length);
+        if !exchange.going {
             return;
         }
-        drive = session.drive;
-        length = session.length;
+        drive = exchange.drive;
+        length = exchange.length;
         turns -= 1;
     }
 }

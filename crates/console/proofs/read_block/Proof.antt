@@ -1,4 +1,4 @@
--- `console::read_block` meets its contract: a session that has ended says nothing of its string.
+-- `console::read_block` meets its contract: an exchange that has ended says nothing of its string.
 -- Assumes nothing.
 use Rattle.console.proofs.Blocks.{ended}
 use borrow.Author.Needs.{needs}
