@@ -1,5 +1,2 @@
--- Applied: what a call comes to, by the tests that an operation makes. Reported: what the lower crates give, at the present cell.
--- Strings: what a string hands back.
+-- Applied: what a call comes to on a sound drive and on an unsound one.
 mod Applied
-mod Reported
-mod Strings

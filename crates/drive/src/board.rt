@@ -5,19 +5,12 @@ ghost use Rattle.machine.specs.Calls.Call.{Step, AtSpeed, Halted};
 ghost use Rattle.machine.specs.Operations.{ordered};
 ghost use Rattle.drive.specs.Results.{doneAs, orderedAs};
 use crate::Drive;
-use crate::parts::accepted;
-use crate::parts::present_cell;
-use crate::parts::refused;
 use crate::results::Done;
 use crate::results::Ordered;
-use crate::results::Refusal;
-use events::orders::board_order;
-use events::reports::at_speed;
-use events::reports::halted;
-use events::reports::takes_at_speed;
-use events::reports::takes_halted;
-use events::stepping::step;
-use execution::starting::moving;
+use crate::wrapping::done;
+use crate::wrapping::unsound;
+use operations::board;
+use operations::results::Refusal;
 use soundness::sound;
 
 impl Drive {
@@ -27,14 +20,9 @@ impl Drive {
     {
         let machine = self.machine;
         if !sound(machine) {
-            return refused(Refusal::Unsound, machine);
+            return unsound(machine);
         }
-        if !moving(machine.state) {
-            return refused(Refusal::NoRunUnderWay, machine);
-        }
-        let cell = present_cell(machine);
-        let state = step(machine.state, cell);
-        accepted(machine, state)
+        done(machine, board::step(machine))
     }
 
     // From the board: the run has reached its speed.
@@ -43,19 +31,9 @@ impl Drive {
     {
         let machine = self.machine;
         if !sound(machine) {
-            return refused(Refusal::Unsound, machine);
+            return unsound(machine);
         }
-        let cell = present_cell(machine);
-        let instruction = cell.instruction;
-        let profile = instruction.profile();
-        let now = machine.state;
-        let running = now.running;
-        let phase = running.phase;
-        if !takes_at_speed(phase, profile) {
-            return refused(Refusal::ReportOutOfPlace, machine);
-        }
-        let state = at_speed(now);
-        accepted(machine, state)
+        done(machine, board::at_speed(machine))
     }
 
     // From the board: the motor stands after slowing.
@@ -64,17 +42,9 @@ impl Drive {
     {
         let machine = self.machine;
         if !sound(machine) {
-            return refused(Refusal::Unsound, machine);
+            return unsound(machine);
         }
-        if !takes_halted(machine.state) {
-            return refused(Refusal::ReportOutOfPlace, machine);
-        }
-        let cell = present_cell(machine);
-        let instruction = cell.instruction;
-        let profile = instruction.profile();
-        let motion = profile.motion;
-        let state = halted(motion, machine.state, cell.next);
-        accepted(machine, state)
+        done(machine, board::halted(machine))
     }
 
     // The order to the board.
@@ -85,7 +55,6 @@ impl Drive {
         if !sound(machine) {
             return Ordered::Refused(Refusal::Unsound);
         }
-        let cell = present_cell(machine);
-        Ordered::Order(board_order(machine.state, cell))
+        Ordered::Order(board::order(machine))
     }
 }

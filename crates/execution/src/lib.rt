@@ -1,8 +1,5 @@
-// Carrying out a program: starting it, taking its cells, milliseconds and waits. Each function
-// takes the state and, where it needs it, the present cell. Only a wait takes the whole memory,
-// once.
+// Carrying out a program, one millisecond at a time: cells taken by value, runs begun, recovery.
+// Each function takes the state, the present cell and, where it needs it, the interrupted record's
+// cell.
 pub mod milliseconds;
-pub mod passing;
-pub mod starting;
 pub mod taking;
-pub mod waiting;

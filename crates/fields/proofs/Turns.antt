@@ -3,8 +3,8 @@
 use Prim.Native.Nat.{ℕ, zero, suc, _+_, _≤_, _<_}
 use native.Mathlib.Numerals.{add-one}
 use native.Mathlib.Omega.{arith}
-use mathlib.Core.Path.{_≡_, ap, sym, _∙_}
-use mathlib.Core.Bool.{true}
+use mathlib.Core.Path.{_≡_, refl, ap, sym, _∙_}
+use mathlib.Core.Bool.{Bool, true, false}
 use mathlib.Core.List.{List, [], _∷_, _++_}
 use lib.ListN.{length, getD, drop, set, length-take, drop-of-length-le}
 use lib.Seq.{drop-cons, length-take-le, getD-take}
@@ -12,15 +12,18 @@ use borrow.Author.Tests.{eq-eqb, ne-eqb}
 use Rattle.laws.specs.Tests.{choose}
 use Rattle.laws.proofs.Tests.{both-left, both-right}
 use Rattle.laws.proofs.Tables.{every-at}
+use Rattle.decimal.specs.declared.parse.Number.{Number}
 use Rattle.decimal.specs.declared.parse.Number.the-variants.{Value, Bad}
 use Rattle.fields.specs.Names.{listed, listOf, placeFrom}
 use Rattle.fields.specs.Reader.{fieldAt}
 use Rattle.fields.specs.Kinds.{parseField, printField, good, valid}
-use Rattle.fields.specs.Rows.{kinds, refusal, part, fieldsFrom, printFields, allGood, allValid}
+use Rattle.fields.specs.Rows.{kinds, refusal, none, withField, part, fieldsFrom, parseFields, printFields, allGood, allValid}
+use Rattle.fields.specs.declared.reader.Extent.{Extent}
 use Rattle.fields.specs.declared.reader.Extent.the-variants.{Field, Missing}
 use Rattle.fields.specs.declared.kinds.Kind.{Kind}
 use Rattle.fields.specs.declared.kinds.Kind.the-variants.{Next, Sign, Multiplier}
 use Rattle.fields.specs.declared.rows.Row.{Row}
+use Rattle.fields.specs.declared.rows.Parsed.{Parsed}
 use Rattle.fields.specs.declared.names.Names.{Names}
 use Rattle.fields.specs.declared.names.Names.the-variants.{Settable, Outputs, Conditions, Inputs, Presets, Resolutions}
 
@@ -85,11 +88,11 @@ unfolding printField choose
 print-four v e = simp (ne-eqb v 0 e)
 
 -- parsing a row: the field is missing, it is wrong, it has a value; no kind is left
-pub fields-missing : (ks : List Kind) (s vs : List ℕ) (i at : ℕ) → i < length ks → fieldAt s at ≡ Missing → fieldsFrom (drop i ks) s at i vs ≡ refusal
+fields-missing : (ks : List Kind) (s vs : List ℕ) (i at : ℕ) → i < length ks → fieldAt s at ≡ Missing → fieldsFrom (drop i ks) s at i vs ≡ refusal
 unfolding fieldsFrom
 fields-missing ks s vs i at h e = rw (drop-cons ks i Next h, e)
 
-pub fields-bad :
+fields-bad :
     (ks : List Kind) (s vs : List ℕ) (i at start end : ℕ) → i < length ks → fieldAt s at ≡ Field start end →
     parseField (getD ks i Next) (part s start end) ≡ Bad → fieldsFrom (drop i ks) s at i vs ≡ refusal
 unfolding fieldsFrom
@@ -101,16 +104,75 @@ pub fields-step :
 unfolding fieldsFrom
 fields-step k ks s vs at i start end v e w = rw (e, w)
 
-pub fields-next :
+fields-next :
     (ks : List Kind) (s vs : List ℕ) (i at start end v : ℕ) → i < length ks → fieldAt s at ≡ Field start end →
     parseField (getD ks i Next) (part s start end) ≡ Value v →
     fieldsFrom (drop i ks) s at i vs ≡ fieldsFrom (drop (i + 1) ks) s end (i + 1) (set vs i v)
 fields-next ks s vs i at start end v h e w = rw (add-one i, drop-cons ks i Next h) (fields-step _ _ s vs at i start end v e w)
 
-pub fields-end :
+fields-end :
     (ks : List Kind) (s vs : List ℕ) (i at : ℕ) → length ks ≤ i → fieldsFrom (drop i ks) s at i vs ≡ record { ok = true; at = at; values = vs }
 unfolding fieldsFrom
 fields-end ks s vs i at h = rw (drop-of-length-le ks h)
+
+-- taking one field: none is taken after a refusal; it is missing, it is wrong, it has a value
+pub with-refused : (k : Kind) (s : List ℕ) (i : ℕ) (p : Parsed) → p .ok ≡ false → p ≡ withField k s i p
+unfolding withField choose
+with-refused k s i p e = rw e
+
+pub with-missing : (k : Kind) (s : List ℕ) (i : ℕ) (p : Parsed) → p .ok ≡ true → fieldAt s (p .at) ≡ Missing → refusal ≡ withField k s i p
+unfolding withField choose
+with-missing k s i p e x = rw (e, x)
+
+pub with-bad :
+    (k : Kind) (s : List ℕ) (i start end : ℕ) (p : Parsed) → p .ok ≡ true → fieldAt s (p .at) ≡ Field start end →
+    parseField k (part s start end) ≡ Bad → refusal ≡ withField k s i p
+unfolding withField choose
+with-bad k s i start end p e x w = rw (e, x, w)
+
+pub with-value :
+    (k : Kind) (s : List ℕ) (i start end v : ℕ) (p : Parsed) → p .ok ≡ true → fieldAt s (p .at) ≡ Field start end →
+    parseField k (part s start end) ≡ Value v → record { ok = true; at = end; values = set (p .values) i v } ≡ withField k s i p
+unfolding withField choose
+with-value k s i start end v p e x w = rw (e, x, w)
+
+-- the rest of a row, where some fields are parsed: from the place reached, or none where one was wrong or missing
+unfoldable pub onward : List Kind → List ℕ → ℕ → Parsed → Parsed
+onward ks s i p = choose (p .ok) (fieldsFrom (drop i ks) s (p .at) i (p .values)) p
+
+pub onward-start : (ks : List Kind) (s : List ℕ) (from : ℕ) → parseFields ks s from ≡ onward ks s 0 (none from)
+unfolding onward parseFields choose
+onward-start ks s from = refl
+
+pub onward-next :
+    (ks : List Kind) (s : List ℕ) (i : ℕ) (p : Parsed) → i < length ks →
+    onward ks s i p ≡ onward ks s (i + 1) (withField (getD ks i Next) s i p)
+unfolding onward withField choose
+onward-next ks s i p h = by-ok (p .ok) refl
+  where
+    Step : Type 0
+    Step = onward ks s i p ≡ onward ks s (i + 1) (withField (getD ks i Next) s i p)
+
+    by-value : (start end : ℕ) → p .ok ≡ true → fieldAt s (p .at) ≡ Field start end
+        → (n : Number) → parseField (getD ks i Next) (part s start end) ≡ n → Step
+    by-value start end e x (Value v) w = rw (e, x, w) (fields-next ks s (p .values) i (p .at) start end v h x w)
+    by-value start end e x Bad w = rw (e, x, w) (fields-bad ks s (p .values) i (p .at) start end h x w)
+
+    by-extent : p .ok ≡ true → (x : Extent) → fieldAt s (p .at) ≡ x → Step
+    by-extent e (Field start end) x = by-value start end e x _ refl
+    by-extent e Missing x = rw (e, x) (fields-missing ks s (p .values) i (p .at) h x)
+
+    by-ok : (b : Bool) → p .ok ≡ b → Step
+    by-ok true e = by-extent e _ refl
+    by-ok false e = rw e
+
+pub onward-end : (ks : List Kind) (s : List ℕ) (i : ℕ) (p : Parsed) → length ks ≤ i → onward ks s i p ≡ p
+unfolding onward choose
+onward-end ks s i p h = by-ok (p .ok) refl
+  where
+    by-ok : (b : Bool) → p .ok ≡ b → onward ks s i p ≡ p
+    by-ok true e = rw e (fields-end ks s (p .values) i (p .at) h)
+    by-ok false e = rw e
 
 -- printing a row: what a place's kind and value are, the fields from a place on, and no kind left
 pub good-at : (ks : List Kind) (i : ℕ) → allGood ks ≡ true → i < length ks → good (getD ks i Next) ≡ true

@@ -37,6 +37,19 @@ onValue Bad f = refusal
 abbrev pub part : List ℕ → ℕ → ℕ → List ℕ
 part s start end = take (end - start) (drop start s)
 
+-- no field yet, at a place
+abbrev pub none : ℕ → Parsed
+none at = record { ok = true; at = at; values = replicate 6 0 }
+
+-- 01: "takes one field after another". Field i, taken from the place reached: its value beside those before it, and the place at its end;
+-- after a wrong or missing field no further one
+unfoldable pub withField : Kind → List ℕ → ℕ → Parsed → Parsed
+withField k s i p =
+    choose (p .ok)
+    (onField (fieldAt s (p .at)) (λ start end.
+    onValue (parseField k (part s start end)) (λ v.
+    record { ok = true; at = end; values = set (p .values) i v }))) p
+
 -- one field after another from a place, their values stored from place i on
 unfoldable pub fieldsFrom : List Kind → List ℕ → ℕ → ℕ → List ℕ → Parsed
 fieldsFrom [] s at i vs = record { ok = true; at = at; values = vs }

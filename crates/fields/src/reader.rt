@@ -30,13 +30,13 @@ impl<'a> Reader<'a> {
     {
         field_at(self.src, self.at)
     }
-}
 
-// The field at a place of a string, through a reader: what every caller uses.
-pub fn read_field(s: &[u8], at: usize) -> Extent
-    ensures { λ r. ⌜ r ≡ fieldAt (now (s .entry)) at ⌝ }
-{
-    Reader::new(s, at).field()
+    // The same string, at another place: after a field, at its end.
+    pub fn moved(self, at: usize) -> Reader<'a>
+        ensures { λ r. ⌜ (r .src ≡ self .entry .src) × (r .at ≡ at) ⌝ }
+    {
+        Reader { src: self.src, at }
+    }
 }
 
 // The work of the reader: a comma at the place, then the field.

@@ -4,12 +4,13 @@ ghost use Prim.Native.Nat.{_<_, _≤_};
 ghost use lib.ListN.{length, getD};
 ghost use Rattle.laws.specs.Writing.{Put};
 ghost use Rattle.fields.specs.declared.kinds.Kind.the-variants.{Next};
-ghost use Rattle.fields.specs.Rows.{kinds, refusal, parseFields, parseAll};
+ghost use Rattle.fields.specs.Reader.{fieldAt};
+ghost use Rattle.fields.specs.Rows.{kinds, refusal, none, withField, parseFields, parseAll};
 ghost use Rattle.fields.specs.Rows.{printRow, PrintableRow};
 use crate::kinds;
 use crate::kinds::Kind;
-use crate::reader;
 use crate::reader::Extent;
+use crate::reader::Reader;
 use decimal::parse::Number;
 
 // Up to six kinds, of which the first `count` count.
@@ -56,31 +57,55 @@ fn refused() -> Parsed
     }
 }
 
-// The fields of a row, each after a comma, from a place on.
+// No field yet, at a place.
+fn begun(at: usize) -> Parsed
+    ensures { λ r. ⌜ r ≡ none at ⌝ }
+{
+    Parsed {
+        ok: true,
+        at,
+        values: [0u32; 6],
+    }
+}
+
+// What is parsed with field i, which the reader found at the place reached; after a wrong or
+// missing field no further one is taken.
+fn with_field(row: Row, i: usize, s: &[u8], field: Extent, parsed: Parsed) -> Parsed
+    requires { ⌜ (i < length (kinds row)) × (field ≡ fieldAt (now s) (parsed .at)) ⌝ }
+    ensures { λ r. ⌜ r ≡ withField (getD (kinds row) i Next) (now (s .entry)) i parsed ⌝ }
+{
+    if !parsed.ok {
+        return parsed;
+    }
+    let Extent::Field { start, end } = field else {
+        return refused();
+    };
+    let Number::Value(v) = kinds::parse_field(kind_at(row, i), &s[start..end]) else {
+        return refused();
+    };
+    let mut values = parsed.values;
+    values[i] = v;
+    Parsed {
+        ok: true,
+        at: end,
+        values,
+    }
+}
+
+// The fields of a row, each after a comma, from a place on: one reader takes one after another.
 pub fn parse_fields(row: Row, s: &[u8], from: usize) -> Parsed
     requires { ⌜ row .count ≤ 6 ⌝ }
     ensures { λ r. ⌜ r ≡ parseFields (kinds row) (now (s .entry)) from ⌝ }
 {
-    let mut values = [0u32; 6];
-    let mut at = from;
+    let mut reader = Reader::new(s, from);
+    let mut parsed = begun(from);
     let mut i = 0;
-    let n = row.count;
-    while i < n {
-        let Extent::Field { start, end } = reader::read_field(s, at) else {
-            return refused();
-        };
-        let Number::Value(v) = kinds::parse_field(kind_at(row, i), &s[start..end]) else {
-            return refused();
-        };
-        values[i] = v;
-        at = end;
+    while i < row.count {
+        parsed = with_field(row, i, s, reader.field(), parsed);
+        reader = reader.moved(parsed.at);
         i += 1;
     }
-    Parsed {
-        ok: true,
-        at,
-        values,
-    }
+    parsed
 }
 
 // The same, where nothing may follow.

@@ -15,7 +15,7 @@ use Rattle.fields.specs.Names.{pairOf, listed, listOf, placeFrom}
 use Rattle.fields.specs.Kinds.{nextOf, signOf, multiplierDigit, multiplierOf, nameOf, parseField, lettersOf, printField}
 use Rattle.fields.specs.Rows.{fieldsFrom, parseFields, ended, parseAll, printFields}
 use Rattle.instruction.specs.Codes.{codeOf}
-use Rattle.instruction.specs.Formats.{fieldsIn, fieldsOf, knownIn, known}
+use Rattle.format.specs.Formats.{fieldsIn, fieldsOf, knownIn, known}
 use Rattle.instruction.specs.Numbers.{travelOf, numbersWith, camOf, cellWith, cellOf}
 use Rattle.instruction.specs.Texts.{cellText, sentFields, sentCode, sentCell}
 use Rattle.instruction.specs.declared.text.Sent.{Sent}

@@ -14,7 +14,7 @@ use Rattle.units.specs.declared.position.Position.{Position}
 use Rattle.fields.specs.Names.{listed, listOf}
 use Rattle.fields.specs.Rows.{allValid}
 use Rattle.instruction.specs.Codes.{codeOf}
-use Rattle.instruction.specs.Formats.{fieldsIn, fieldsOf, knownIn, known}
+use Rattle.format.specs.Formats.{fieldsIn, fieldsOf, knownIn, known}
 use Rattle.instruction.specs.Numbers.{numbersWith, numbersOf, camOf, cellWith, cellOf, byteOf}
 use Rattle.instruction.specs.Soundness.{canonical, cellSound}
 use Rattle.instruction.specs.declared.Instruction.{Instruction}

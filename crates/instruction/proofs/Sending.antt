@@ -20,14 +20,14 @@ use Rattle.fields.proofs.RoundTrip.{fields-back, all-back}
 use Rattle.fields.proofs.Lengths.{fields-most}
 use Rattle.fields.proofs.Validity.{all-valid}
 use Rattle.instruction.specs.Codes.{codeOf}
-use Rattle.instruction.specs.Formats.{fieldsOf, known}
+use Rattle.format.specs.Formats.{fieldsOf, known}
 use Rattle.instruction.specs.Numbers.{numbersOf, cellOf}
 use Rattle.instruction.specs.Soundness.{cellSound}
 use Rattle.instruction.specs.Texts.{codeKind, cellText, sentFields, sentCode, sentCell}
 use Rattle.instruction.specs.declared.Cell.{Cell}
 use Rattle.instruction.specs.declared.text.Sent.{Sent}
 use Rattle.instruction.specs.declared.text.Sent.the-variants.{Held, Wrong}
-use Rattle.instruction.proofs.Entries.{fields-by, formats-good, formats-few, known-by}
+use Rattle.format.proofs.Entries.{fields-by, formats-good, formats-few, known-by}
 use Rattle.instruction.proofs.Values.{valid-same}
 use Rattle.instruction.proofs.Numbering.{known-code, numbers-zeros, length-numbers, cell-numbers}
 use Rattle.instruction.proofs.Storing.{sound-cell}

@@ -14,14 +14,14 @@ use Rattle.laws.proofs.Tests.{both-right, both-true, choose-by}
 use Rattle.fields.specs.Names.{listed, listOf}
 use Rattle.fields.specs.Kinds.{valid, validSigned}
 use Rattle.fields.specs.Rows.{allValid}
-use Rattle.fields.specs.declared.kinds.Kind.the-variants.{Next, Signed}
+use Rattle.fields.specs.declared.kinds.Kind.the-variants.{Next}
 use Rattle.instruction.specs.Codes.{codeOf}
-use Rattle.instruction.specs.Formats.{Entry, formats, fieldsIn, fieldsOf, known}
+use Rattle.format.specs.Formats.{Entry, position, formats, fieldsIn, fieldsOf, known}
 use Rattle.instruction.specs.Numbers.{six, numbersWith, numbersOf, byteOf, bitOf, isOne, withNext, camOf, cellWith, cellOf}
 use Rattle.instruction.specs.Soundness.{canonical, cellSound}
 use Rattle.instruction.specs.declared.Instruction.{Instruction}
 use Rattle.instruction.specs.declared.Instruction.the-variants.{Null, IndexedRamp, IndexedRampFine, FreeRamp, FreeRampFine, Indexed, IndexedFine, Free, FreeFine, ZeroSearch, DelayedStop, CamSetting, OutputSetting, CounterReset, OpeningLoop, ClosingLoop, ConditionalJump, TimeDelay, Recovery, CurrentSetting}
-use Rattle.instruction.proofs.Entries.{formats-few, known-by}
+use Rattle.format.proofs.Entries.{formats-few, known-by}
 use Rattle.instruction.proofs.Values.{byte, word, bit, bits, greatest, wideAt, Admitted, admitted, Kept, kept, backward-travel, x4-travel, within-steps, within-count, hertz-place-valid, valid-same}
 
 code-cam : (v : Bool) (p : ℕ) → codeOf (camOf v p) ≡ 57
@@ -41,7 +41,7 @@ unfolding sameCode
 code-cell code vs h = eqb-true _ code (known-by (sameCode vs) code (codes-same vs) h)
 
 -- 01, of the 57: "stored +0 for V=0"
-stored-cam : (v : Bool) (b c : ℕ) → valid (Signed 2147483648 2147483647) b ≡ true → both (valid Next (byteOf c)) true ≡ true →
+stored-cam : (v : Bool) (b c : ℕ) → valid position b ≡ true → both (valid Next (byteOf c)) true ≡ true →
     cellSound (withNext (camOf v b) c) ≡ true
 unfolding camOf choose cellSound fieldsOf fieldsIn codeOf numbersWith canonical either allValid valid validSigned both
 stored-cam true b c p n = both-true (both-true p n) refl

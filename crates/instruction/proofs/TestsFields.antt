@@ -2,11 +2,11 @@
 -- Assumes nothing.
 use Prim.Native.Nat.{ℕ, suc, _-_, _<_, _≤_, _^_}
 use native.Mathlib.Omega.{arith}
-use mathlib.Core.Path.{_≡_, refl, sym, _∙_}
+use mathlib.Core.Path.{_≡_, refl, sym}
 use mathlib.Core.Bool.{Bool, true, false, _&&_}
 use mathlib.Core.Logic.{⊎-elim}
-use lib.Dec.{leb, ltb, leb·zero, leb·suc-suc}
-use lib.IntN.{ℤ, pos, negsuc, natAbs}
+use lib.Dec.{leb, ltb, leb·zero}
+use lib.IntN.{ℤ, pos, negsuc, negℤ, natAbs}
 use lib.Signed.{leZ}
 use mir.Syntax.{w32}
 use mir.Val.{toZ, ofZ, SFits}
@@ -14,10 +14,12 @@ use mir.Facts.{toZ-ofZ}
 use borrow.Author.Tests.{le-ltb, lt-ltb, le-leb, lt-leb, leb-true}
 use Rattle.laws.specs.Tests.{choose, both}
 use Rattle.laws.proofs.Tests.{lt-or-le}
-use Rattle.laws.proofs.Joins.{and-both, both-end, both-false-right, both-under-right}
+use Rattle.laws.proofs.Joins.{and-both, both-false-right, both-under-right}
+use Rattle.units.specs.Limits.{stepLimit}
 use Rattle.units.specs.declared.Steps.{Steps}
 use Rattle.units.specs.declared.position.Position.{Position}
 use Rattle.units.specs.Bits.{bitsOf}
+use Rattle.units.proofs.Limits.{between-within-bits}
 use Rattle.frequency.specs.declared.Frequency.{Frequency}
 use Rattle.frequency.specs.Places.{hertzOf}
 use Rattle.frequency.proofs.Placing.{hertz-range, hertz-past}
@@ -26,7 +28,7 @@ use Rattle.fields.specs.Kinds.{validSigned, valid}
 use Rattle.fields.specs.declared.kinds.Kind.{Kind}
 use Rattle.fields.specs.declared.kinds.Kind.the-variants.{Count, Sign, Multiplier, Name}
 use Rattle.fields.specs.declared.names.Names.the-variants.{Settable, Conditions}
-use Rattle.instruction.specs.Formats.{hertz, steps, count, position, bit}
+use Rattle.format.specs.Formats.{hertz, steps, count, position, bit}
 use Rattle.instruction.specs.Numbers.{bitOf}
 use Rattle.instruction.specs.Soundness.{stepsWithin}
 
@@ -90,33 +92,31 @@ pub valid-steps : (n : Steps) → stepsWithin n ≡ true → valid steps (bitsOf
 unfolding stepsWithin valid validSigned both choose
 valid-steps n t = go (n .0) (leb-true _ _ t)
   where
-    go : (z : ℤ) → natAbs z ≤ 8388607 → valid steps (ofZ w32 z) ≡ true
-    go (pos n) h = simp (lt-ltb n (2 ^ 32) (omega arith), lt-ltb n (2 ^ 31) (omega arith), le-leb n 8388607 h)
+    go : (z : ℤ) → natAbs z ≤ stepLimit → valid steps (ofZ w32 z) ≡ true
+    go (pos n) h = simp (lt-ltb n (2 ^ 32) (omega arith), lt-ltb n (2 ^ 31) (omega arith), le-leb n stepLimit h)
     go (negsuc n) h =
-        let b : 2 ^ 32 - (2 ^ 32 - suc n) ≤ 8388607 = omega arith in
+        let b : 2 ^ 32 - (2 ^ 32 - suc n) ≤ stepLimit = omega arith in
         simp (lt-ltb (2 ^ 32 - suc n) (2 ^ 32) (omega arith), le-ltb (2 ^ 32 - suc n) (2 ^ 31) (omega arith), le-leb _ _ b)
 
-within : (z : ℤ) → leZ (negsuc 8388606) z && leZ z (pos 8388607) ≡ leb (natAbs z) 8388607
-within (pos n) = refl
-within (negsuc n) = and-both _ true ∙ both-end _ ∙ sym (leb·suc-suc n 8388606)
-
-counted : (z : ℤ) → leZ (pos 0) z && leZ z (pos 8388607) ≡ both (valid count (ofZ w32 z)) (leb (natAbs z) 8388607)
+counted : (z : ℤ) → leZ (pos 0) z && leZ z (pos stepLimit) ≡ both (valid count (ofZ w32 z)) (leb (natAbs z) stepLimit)
 unfolding valid both
-counted (pos n) = simp (leb·zero n) (sym (both-under-right (leb n 8388607) (λ e. e)))
-counted (negsuc n) = sym (both-under-right (leb (suc n) 8388607) far)
+counted (pos n) = simp (leb·zero n) (sym (both-under-right (leb n stepLimit) (λ e. e)))
+counted (negsuc n) = sym (both-under-right (leb (suc n) stepLimit) far)
   where
-    far : leb (suc n) 8388607 ≡ true → both (leb 0 (2 ^ 32 - suc n)) (leb (2 ^ 32 - suc n) 8388607) ≡ false
-    far t = simp (lt-leb (2 ^ 32 - suc n) 8388607 (omega (arith, leb-true (suc n) 8388607 t))) (both-false-right (leb 0 (2 ^ 32 - suc n)) false refl)
+    far : leb (suc n) stepLimit ≡ true → both (leb 0 (2 ^ 32 - suc n)) (leb (2 ^ 32 - suc n) stepLimit) ≡ false
+    far t =
+        simp (lt-leb (2 ^ 32 - suc n) stepLimit (omega (arith, leb-true (suc n) stepLimit t)))
+        (both-false-right (leb 0 (2 ^ 32 - suc n)) false refl)
 
--- steps that were read back from their bits, from −8,388,607 to +8,388,607
+-- steps that were read back from their bits, within the limit either way
 pub within-bits : (n : Steps) → SFits w32 (n .0) →
-    leZ (negsuc 8388606) (toZ w32 (bitsOf n)) && leZ (toZ w32 (bitsOf n)) (pos 8388607) ≡ stepsWithin n
+    leZ (negℤ (pos stepLimit)) (toZ w32 (bitsOf n)) && leZ (toZ w32 (bitsOf n)) (pos stepLimit) ≡ stepsWithin n
 unfolding stepsWithin
-within-bits n s = rw (toZ-ofZ s) (within (n .0))
+within-bits n s = between-within-bits stepLimit (n .0) s
 
--- the same from 0 to 8,388,607
+-- the same from 0 to the limit
 pub counted-bits : (n : Steps) → SFits w32 (n .0) →
-    leZ (pos 0) (toZ w32 (bitsOf n)) && leZ (toZ w32 (bitsOf n)) (pos 8388607)
+    leZ (pos 0) (toZ w32 (bitsOf n)) && leZ (toZ w32 (bitsOf n)) (pos stepLimit)
     ≡ both (valid count (bitsOf n)) (stepsWithin n)
 unfolding stepsWithin
 counted-bits n s = rw (toZ-ofZ s) (counted (n .0))

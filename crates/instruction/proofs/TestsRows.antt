@@ -12,7 +12,7 @@ use Rattle.fields.specs.Kinds.{valid}
 use Rattle.fields.specs.Rows.{allValid}
 use Rattle.fields.specs.declared.kinds.Kind.{Kind}
 use Rattle.fields.specs.declared.kinds.Kind.the-variants.{Next, Sign, Multiplier}
-use Rattle.instruction.specs.Formats.{steps, bit}
+use Rattle.format.specs.Formats.{steps, bit}
 use Rattle.instruction.specs.Numbers.{bitOf, six}
 use Rattle.instruction.specs.Soundness.{stepsWithin}
 use Rattle.instruction.proofs.TestsFields.{valid-sign, valid-multiplier, valid-value, valid-steps}

@@ -16,6 +16,7 @@ use mir.Facts.{toZ-pos}
 use borrow.Author.Tests.{ltb-true, leb-true, lt-ltb, le-leb}
 use Rattle.laws.specs.Tests.{choose}
 use Rattle.laws.proofs.Tests.{both-left, both-right, both-true, lt-or-le}
+use Rattle.units.specs.Limits.{stepLimit}
 use Rattle.units.specs.Bits.{stepsOf, bitsOf}
 use Rattle.units.specs.declared.Steps.{Steps}
 use Rattle.units.proofs.Integers.{sfits-natAbs}
@@ -29,7 +30,7 @@ use Rattle.fields.specs.Rows.{allValid}
 use Rattle.fields.specs.declared.kinds.Kind.{Kind}
 use Rattle.fields.specs.declared.kinds.Kind.the-variants.{Fixed, Next, Count, Signed, Optional, Sign, Multiplier, Name}
 use Rattle.fields.proofs.Bounds.{valid-between, between-valid, valid-next, valid-signed, valid-name}
-use Rattle.instruction.specs.Formats.{hertz, steps}
+use Rattle.format.specs.Formats.{hertz, steps, count}
 use Rattle.instruction.specs.Numbers.{bitOf, isOne, travelBackward, travelX4, travelOf, byteOf, wordOf}
 use Rattle.instruction.specs.Soundness.{stepsWithin}
 use Rattle.instruction.specs.declared.Travel.{Travel}
@@ -120,27 +121,27 @@ x4-travel false false = refl
 
 pub steps-bits-within : (n : Steps) → stepsWithin n ≡ true → stepsOf (bitsOf n) ≡ n
 unfolding stepsWithin
-steps-bits-within n t = steps-bits n (sfits-natAbs w32 (n .0) 8388607 (leb-true _ _ t) (lit< tt))
+steps-bits-within n t = steps-bits n (sfits-natAbs w32 (n .0) stepLimit (leb-true _ _ t) (lit< tt))
 
-within-low : (v : ℕ) → v ≤ 8388607 → stepsWithin (stepsOf v) ≡ true
+within-low : (v : ℕ) → v ≤ stepLimit → stepsWithin (stepsOf v) ≡ true
 unfolding stepsWithin
-within-low v h = le-leb (natAbs (toZ w32 v)) 8388607 (rw (toZ-pos w32 {n = v} (omega arith)) h)
+within-low v h = le-leb (natAbs (toZ w32 v)) stepLimit (rw (toZ-pos w32 {n = v} (omega arith)) h)
 
-within-high : (v : ℕ) → 2 ^ 31 ≤ v → v < 2 ^ 32 → 2 ^ 32 - v ≤ 8388607 → stepsWithin (stepsOf v) ≡ true
+within-high : (v : ℕ) → 2 ^ 31 ≤ v → v < 2 ^ 32 → 2 ^ 32 - v ≤ stepLimit → stepsWithin (stepsOf v) ≡ true
 unfolding stepsWithin
-within-high v l u h = le-leb (natAbs (toZ w32 v)) 8388607 (rw (toZ-high v l) (omega arith))
+within-high v l u h = le-leb (natAbs (toZ w32 v)) stepLimit (rw (toZ-high v l) (omega arith))
 
 -- 01: "n is ±nnn within 8,388,607 each way"
 pub within-steps : (v : ℕ) → valid steps v ≡ true → stepsWithin (stepsOf v) ≡ true
 unfolding valid
 within-steps v t =
-    let r = valid-signed 8388607 8388607 v t in
+    let r = valid-signed stepLimit stepLimit v t in
     ⊎-elim (λ (l : v < 2 ^ 31). within-low v (r .1 .0 l)) (λ (l : 2 ^ 31 ≤ v). within-high v l (r .0) (r .1 .1 l)) (lt-or-le v (2 ^ 31))
 
 -- 01, of the 05: "nnn", "0 to 8,388,607"
-pub within-count : (v : ℕ) → valid (Count 0 8388607) v ≡ true → stepsWithin (stepsOf v) ≡ true
+pub within-count : (v : ℕ) → valid count v ≡ true → stepsWithin (stepsOf v) ≡ true
 unfolding valid
-within-count v t = within-low v (valid-between 0 8388607 v t .1)
+within-count v t = within-low v (valid-between 0 stepLimit v t .1)
 
 -- a frequency that 21 or 22 may hold is in the table
 pub place-hertz-valid : (f : Frequency) → valid hertz (hertzOf f) ≡ true → placeOf (hertzOf f) ≡ f

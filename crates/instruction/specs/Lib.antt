@@ -1,7 +1,6 @@
--- Codes: the code of each instruction. Formats: the fields of each code. Numbers: an instruction as the numbers of its QM answer, and back.
+-- Codes: the code of each instruction. Numbers: an instruction as the numbers of its QM answer, and back.
 -- Soundness: what a cell may hold. Texts: a cell as it is sent and shown. Runs: what a run needs of an instruction.
 pub mod Codes
-pub mod Formats
 pub mod Numbers
 pub mod Soundness
 pub mod Texts

@@ -13,7 +13,7 @@ use Rattle.instruction.specs.declared.Instruction.the-variants.{Indexed,
 use Rattle.instruction.specs.declared.Instruction.the-variants.{CamSetting, OutputSetting, CounterReset, OpeningLoop, ClosingLoop}
 use Rattle.instruction.specs.declared.Instruction.the-variants.{ConditionalJump, TimeDelay, Recovery, CurrentSetting}
 use Rattle.instruction.specs.declared.run.Motion.{Motion}
-use Rattle.instruction.specs.declared.run.Motion.the-variants.{NoRun, IndexedRun, FreeRun, SearchRun, StoppedRun}
+use Rattle.instruction.specs.declared.run.Motion.the-variants.{NoRun, IndexedRun, FreeRun, SearchRun, DelayedStopRun}
 use Rattle.instruction.specs.declared.run.Profile.{Profile}
 
 abbrev pub still : Steps
@@ -36,7 +36,7 @@ abbrev pub searchRun : ℕ → ℕ → Bool → ℕ → Profile
 searchRun h r s l = profile SearchRun h r false s still l
 
 abbrev pub stoppedRun : ℕ → ℕ → Travel → Steps → Profile
-stoppedRun h r t n = profile StoppedRun h r (travelX4 t) (travelBackward t) n 0
+stoppedRun h r t n = profile DelayedStopRun h r (travelX4 t) (travelBackward t) n 0
 
 -- 01: "FF in the ramp codes is 03 to 24 thousand Hz, in 11, 12 and LL 02 to 30 hundred Hz; FFF 030 to 240 hundred Hz"; FFFF is in Hz
 unfoldable pub profileOf : Instruction → Profile

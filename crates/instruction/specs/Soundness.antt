@@ -6,9 +6,10 @@ use lib.Dec.{eqb, leb}
 use lib.IntN.{natAbs}
 use Rattle.laws.specs.Tests.{both, either}
 use Rattle.fields.specs.Rows.{allValid}
+use Rattle.units.specs.Limits.{stepLimit}
 use Rattle.units.specs.declared.Steps.{Steps}
 use Rattle.instruction.specs.Codes.{codeOf}
-use Rattle.instruction.specs.Formats.{fieldsOf}
+use Rattle.format.specs.Formats.{fieldsOf}
 use Rattle.instruction.specs.Numbers.{numbersOf}
 use Rattle.instruction.specs.declared.Instruction.{Instruction}
 use Rattle.instruction.specs.declared.Instruction.the-variants.{Null, IndexedRamp, IndexedRampFine, FreeRamp, FreeRampFine}
@@ -19,7 +20,7 @@ use Rattle.instruction.specs.declared.Cell.{Cell}
 
 -- 01: "n is ±nnn within 8,388,607 each way"
 unfoldable pub stepsWithin : Steps → Bool
-stepsWithin n = leb (natAbs (n .0)) 8388607
+stepsWithin n = leb (natAbs (n .0)) stepLimit
 
 -- the stored form, where the numbers say less than the record could hold: steps are a number of 32 bits, a 57 is "stored +0 for V=0",
 -- and "Code 69 has no DDD"

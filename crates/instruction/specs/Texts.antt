@@ -12,7 +12,7 @@ use Rattle.fields.specs.declared.kinds.Kind.the-variants.{Fixed, Next}
 use Rattle.fields.specs.declared.rows.Row.{Row}
 use Rattle.fields.specs.declared.rows.Parsed.{Parsed}
 use Rattle.instruction.specs.Codes.{codeOf}
-use Rattle.instruction.specs.Formats.{fieldsOf, known, sixKinds}
+use Rattle.format.specs.Formats.{fieldsOf, known, sixKinds}
 use Rattle.instruction.specs.Numbers.{numbersOf, cellOf}
 use Rattle.instruction.specs.Soundness.{cellSound}
 use Rattle.instruction.specs.declared.Cell.{Cell}

@@ -6,7 +6,6 @@ use units::Position;
 use units::Steps;
 
 pub mod code;
-pub mod format;
 pub mod numbers;
 pub mod run;
 pub mod sound;

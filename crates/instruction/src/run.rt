@@ -19,7 +19,7 @@ pub enum Motion {
     // The zero search: 03.
     SearchRun,
     // Until a free run stop, then a counted number of steps: 05.
-    StoppedRun,
+    DelayedStopRun,
 }
 
 pub struct Profile {
@@ -93,10 +93,10 @@ fn search(hertz: u32, ramp: u8, backward: bool, slow: u32) -> Profile
 }
 
 fn stopped(hertz: u32, ramp: u8, x4: bool, backward: bool, steps: Steps) -> Profile
-    ensures { λ r. ⌜ r ≡ profile Motion.StoppedRun hertz ramp x4 backward steps 0 ⌝ }
+    ensures { λ r. ⌜ r ≡ profile Motion.DelayedStopRun hertz ramp x4 backward steps 0 ⌝ }
 {
     Profile {
-        motion: Motion::StoppedRun,
+        motion: Motion::DelayedStopRun,
         hertz,
         ramp,
         x4,

@@ -8,11 +8,13 @@ ghost use Rattle.units.specs.Bits.{bitsOf};
 ghost use Rattle.frequency.specs.Places.{hertzOf};
 ghost use Rattle.fields.specs.Kinds.{valid};
 ghost use Rattle.fields.specs.declared.kinds.Kind.the-variants.{Fixed, Next};
-ghost use Rattle.instruction.specs.Formats.{hertz, ramp, count, position};
+ghost use Rattle.format.specs.Formats.{hertz, ramp, count, position};
 ghost use Rattle.instruction.specs.Soundness.{cellSound, stepsWithin};
 use crate::Cell;
 use crate::Instruction;
 use frequency::Frequency;
+use units::LOOP_LIMIT;
+use units::Milliseconds;
 use units::Position;
 use units::Steps;
 
@@ -121,14 +123,14 @@ impl Cell {
             Instruction::CamSetting { set, position } => linked & stored(set, position),
             Instruction::OutputSetting { output, .. } => (output.0 < 13) & linked,
             Instruction::CounterReset => linked,
-            Instruction::OpeningLoop { count } => (1 <= count) & (count <= 65535) & linked,
+            Instruction::OpeningLoop { count } => (1 <= count) & (count <= LOOP_LIMIT) & linked,
             Instruction::ClosingLoop { jump } => between(jump.0, 100, 230) & linked,
             Instruction::ConditionalJump {
                 condition,
                 jump,
                 ..
             } => (condition.0 < 16) & between(jump.0, 100, 230) & linked,
-            Instruction::TimeDelay { delay } => (delay.0 <= 65535) & linked,
+            Instruction::TimeDelay { delay } => (delay.0 <= Milliseconds::DELAY_LIMIT) & linked,
             Instruction::CurrentSetting { .. } => linked,
             Instruction::Null => linked,
             Instruction::Recovery => next == 0,

@@ -3,7 +3,6 @@ ghost use mathlib.Core.Path.{_≡_};
 ghost use Rattle.laws.specs.Writing.{Put};
 ghost use Rattle.instruction.specs.Texts.{codeRow, cellText, sentCell, Shown};
 use crate::Cell;
-use crate::format;
 use crate::numbers;
 use fields::kinds::Kind;
 use fields::rows;

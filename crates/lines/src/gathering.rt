@@ -3,7 +3,7 @@ ghost use mathlib.Core.Path.{_≡_};
 ghost use Prim.Native.Nat.{min};
 ghost use lib.ListN.{take};
 ghost use Rattle.decimal.specs.Printing.{decimal, signed};
-ghost use Rattle.lines.specs.Gathering.{Gathered};
+ghost use Rattle.lines.specs.Gathering.{Gathered, bitText};
 use decimal::print::put_decimal;
 use decimal::print::put_signed;
 
@@ -48,4 +48,14 @@ pub fn gather_signed(line: &mut [u8], n: usize, bits: u32) -> usize
     let mut text = [0u8; 11];
     let length = put_signed(&mut text, 0, bits);
     gather(line, n, front(&text, length))
+}
+
+// The same of a bit, as a digit.
+pub fn gather_bit(line: &mut [u8], n: usize, on: bool) -> usize
+    ensures { λ r. ⌜ Gathered (now (line .entry)) n (bitText on) (now (line .exit)) r ⌝ }
+{
+    if on {
+        return gather(line, n, b"1");
+    }
+    gather(line, n, b"0")
 }

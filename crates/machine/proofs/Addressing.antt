@@ -16,9 +16,11 @@ use Rattle.laws.proofs.Tests.{both-true, choose-true, choose-false}
 use Rattle.decimal.specs.Printing.{digits}
 use Rattle.machine.specs.Record.{idle}
 use Rattle.machine.specs.Commands.{commandOf}
-use Rattle.machine.specs.Strings.{silent, carriedOut, ended, bodyOf, isDigit, stringAddress, addressed, free, toEvery, permitted, judged}
-use Rattle.machine.specs.Strings.{unanswered, told}
+use Rattle.machine.specs.Strings.{silent, carriedOut, ended, bodyOf, isDigit, headerOf, addressed, free, toEvery, permitted, admitted, judged}
+use Rattle.machine.specs.Strings.{allowed, unanswered, toldIn, toldBy, told}
 use Rattle.machine.specs.declared.Machine.{Machine}
+use Rattle.machine.specs.declared.commands.StringAddress.{StringAddress}
+use Rattle.machine.specs.declared.commands.Command.{Command}
 
 -- a string with its byte 13
 abbrev pub string : List ℕ → List ℕ
@@ -55,19 +57,19 @@ addressedTo aa t = tens aa ∷ ones aa ∷ t
 pub digits-front : (aa : ℕ) (t : List ℕ) → digits 2 aa ++ t ≡ addressedTo aa t
 digits-front aa t = ap (λ (d : List ℕ). d ++ t) (digits-two aa)
 
-pub address-front : (aa : ℕ) (t : List ℕ) → stringAddress (addressedTo aa t) ≡ aa
-unfolding stringAddress
+pub address-front : (aa : ℕ) (t : List ℕ) → headerOf (addressedTo aa t) .address .0 ≡ aa
+unfolding headerOf
 address-front aa t = omega (arith, div-add-mod' aa 10)
 
-digits-front-are : (aa : ℕ) → aa < 100 → both (isDigit (tens aa)) (isDigit (ones aa)) ≡ true
-unfolding isDigit
-digits-front-are aa h =
+digits-front-are : (aa : ℕ) (t : List ℕ) → aa < 100 → headerOf (addressedTo aa t) .digits ≡ true
+unfolding headerOf isDigit
+digits-front-are aa t h =
     let digit-rest : aa % 10 < 10 = mod-lt aa (omega arith) in
     both-true
     (both-true (le-leb 48 (tens aa) (omega arith)) (le-leb (tens aa) 57 (omega arith)))
     (both-true (le-leb 48 (ones aa) (omega arith)) (le-leb (ones aa) 57 (omega (arith, digit-rest))))
 
-not-every : (aa : ℕ) (t : List ℕ) → aa ≤ 47 → toEvery (addressedTo aa t) ≡ false
+not-every : (aa : ℕ) (t : List ℕ) → aa ≤ 47 → toEvery (headerOf (addressedTo aa t)) ≡ false
 unfolding toEvery
 not-every aa t h = rw (address-front aa t) (ne-eqb aa 99 (λ e. omega arith))
 
@@ -75,23 +77,24 @@ not-every aa t h = rw (address-front aa t) (ne-eqb aa 99 (λ e. omega arith))
 abbrev pub own : Machine → ℕ
 own m = m .state .presets .address .0
 
--- what is tested of a string, in 01's order
-abbrev hears : List ℕ → Machine → Bool
-hears s m = both (addressed (own m) s) (both (free (m .state) s) (permitted s))
+-- the same, as it stands in a string
+abbrev pub ownAddress : Machine → StringAddress
+ownAddress m = record { 0 = own m }
 
-told-string :
-    (s : List ℕ) (m : Machine) →
-    told (string s) m
-    ≡ choose (hears s m) (unanswered (toEvery s) (carriedOut (judged (string s) s) (stringAddress s) m)) (silent m)
-unfolding told both
-told-string s m = rw (ended-string s, body-string s) refl
+-- a string that ends in byte 13, by the command that it asks for
+pub told-string :
+    (k : Command) (s : List ℕ) (m : Machine) →
+    toldBy k (string s) m ≡ toldIn (headerOf s) k m
+unfolding toldBy
+told-string k s m =
+    choose-true _ _ _ (ended-string s) ∙ ap (λ (l : List ℕ). toldIn (headerOf l) k m) (body-string s)
 
-own-hears : (t : List ℕ) (m : Machine) → own m ≤ 47 → idle (m .state) ≡ true → hears (addressedTo (own m) t) m ≡ true
-unfolding addressed free permitted either
-own-hears t m h i =
+own-admitted : (t : List ℕ) (m : Machine) → own m ≤ 47 → idle (m .state) ≡ true → admitted (headerOf (addressedTo (own m) t)) (m .state) ≡ true
+unfolding admitted addressed free permitted either
+own-admitted t m h i =
     let aa = own m in
     both-true
-    (both-true (digits-front-are aa (omega arith)) (rw (address-front aa t, eq-eqb aa aa refl) refl))
+    (both-true (digits-front-are aa t (omega arith)) (rw (address-front aa t, eq-eqb aa aa refl) refl))
     (both-true (rw i refl) (rw (not-every aa t h) refl))
 
 judged-short : (t : List ℕ) (s : List ℕ) → length t ≤ 64 → judged t s ≡ commandOf s
@@ -102,13 +105,14 @@ judged-short t s h = choose-false _ _ _ (le-ltb 64 (length t) h)
 pub told-own :
     (t : List ℕ) (m : Machine) → own m ≤ 47 → idle (m .state) ≡ true → length t ≤ 61 →
     told (string (addressedTo (own m) t)) m
-    ≡ carriedOut (commandOf (addressedTo (own m) t)) (own m) m
-unfolding unanswered
+    ≡ carriedOut (allowed (commandOf (addressedTo (own m) t)) (m .state)) (ownAddress m) m
+unfolding told toldIn unanswered
 told-own t m h i l =
     let aa = own m in
     let s = addressedTo aa t in
-    told-string s m ∙ choose-true _ _ _ (own-hears t m h i)
-    ∙ rw (not-every aa t h, address-front aa t, judged-short (string s) s (omega (arith, length-append s (13 ∷ [])))) refl
+    told-string _ s m ∙ choose-true _ _ _ (own-admitted t m h i)
+    ∙ rw (not-every aa t h, body-string s, judged-short (string s) s (omega (arith, length-append s (13 ∷ []))))
+    (ap (λ (n : ℕ). carriedOut (allowed (commandOf s) (m .state)) (record { 0 = n }) m) (address-front aa t))
 
 neither : (a b : Bool) → a ≡ false → b ≡ false → either a b ≡ false
 unfolding either
@@ -122,7 +126,7 @@ not-heard false b c e = refl
 
 -- a string at another drive's address is not heard
 pub told-other : (aa : ℕ) (t : List ℕ) (m : Machine) → aa ≤ 47 → aa ≢ own m → told (string (addressedTo aa t)) m ≡ silent m
-unfolding addressed toEvery
+unfolding told toldIn admitted addressed toEvery
 told-other aa t m h n =
     let far = ap (λ (k : ℕ). eqb k (own m)) (address-front aa t) ∙ ne-eqb aa (own m) n in
-    told-string (addressedTo aa t) m ∙ choose-false _ _ _ (not-heard _ _ _ (neither _ _ far (not-every aa t h)))
+    told-string _ (addressedTo aa t) m ∙ choose-false _ _ _ (not-heard _ _ _ (neither _ _ far (not-every aa t h)))

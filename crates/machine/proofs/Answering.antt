@@ -8,19 +8,21 @@ use mathlib.Core.List.{List, [], _∷_, map, List·Memᴰ, List·Memᴰ·head, L
 use lib.ListN.{length, replicate}
 use lib.Dec.{ltb}
 use borrow.Author.Tests.{leb-true}
+use Rattle.laws.specs.Tests.{choose, both}
 use Rattle.laws.proofs.Tests.{both-left, choose-true, choose-false}
-use Rattle.machine.specs.Record.{idle}
+use Rattle.machine.specs.Record.{cellAt, idle}
 use Rattle.machine.specs.Soundness.{presetsSound, stateSound}
 use Rattle.machine.specs.Commands.{commandOf}
-use Rattle.machine.specs.Answers.{presetText, positionText, inputText, outputText, memoryText, camText, faultText, suspendedText, answerOf}
-use Rattle.machine.specs.Strings.{heard, carriedOut, told}
+use Rattle.machine.specs.Answers.{presetText, positionText, inputText, outputText, memoryText, camText, faultText, suspendedText, answerOf, answerAt}
+use Rattle.machine.specs.Acting.{named, actedAt, cellsAfter, namedCell, machineAfter}
+use Rattle.machine.specs.Strings.{heard, isStart, allowed, carriedOut, told}
 use Rattle.machine.specs.Calls.{Call, Outcome, Seen, answered, act, apply, next, look, seen}
 use Rattle.machine.specs.Calls.Call.{SendString}
 use Rattle.machine.specs.Reading.{Request, requests, requestText, ask, reading}
 use Rattle.machine.specs.Reading.Request.{Cell, Preset, Position, Output, Input, Cam, Fault, Suspended}
 use Rattle.machine.specs.declared.Machine.{Machine}
 use Rattle.machine.proofs.Invariant.{Good, good-sound}
-use Rattle.machine.proofs.Addressing.{own, string, addressedTo, digits-front, told-own}
+use Rattle.machine.proofs.Addressing.{own, ownAddress, string, addressedTo, digits-front, told-own}
 use Rattle.machine.proofs.Requests.{commandFor, requests-parsed, sendable, requests-sendable}
 use Rattle.machine.proofs.Members.{map-at, every-member}
 
@@ -36,7 +38,7 @@ codeFor Fault = "QE"
 codeFor Suspended = "QR"
 
 unfoldable pub textFor : Request → Machine → List ℕ
-textFor (Cell k) m = memoryText (record { 0 = 100 + k }) m
+textFor (Cell k) m = memoryText (record { 0 = 100 + k }) (cellAt (m .cells) (record { 0 = 100 + k }))
 textFor (Preset k) m = presetText k (m .state)
 textFor Position m = positionText (m .state)
 textFor (Output k) m = outputText k (m .state)
@@ -46,10 +48,11 @@ textFor Fault m = faultText (m .state)
 textFor Suspended m = suspendedText (m .state .suspended)
 
 unfoldable pub answerTo : Request → Machine → List ℕ
-answerTo r m = answerOf (own m) (codeFor r) (textFor r m)
+answerTo r m = answerOf (ownAddress m) (codeFor r) (textFor r m)
 
-carried-ask : (r : Request) (m : Machine) → carriedOut (commandFor r) (own m) m ≡ heard (answerTo r m) m
-unfolding commandFor carriedOut answerTo codeFor textFor
+-- asking changes nothing, with any input on or off
+carried-ask : (r : Request) (m : Machine) → carriedOut (allowed (commandFor r) (m .state)) (ownAddress m) m ≡ heard (answerTo r m) m
+unfolding commandFor allowed isStart both choose carriedOut answerAt machineAfter namedCell named actedAt cellsAfter answerTo codeFor textFor
 carried-ask (Cell k) m = refl
 carried-ask (Preset k) m = refl
 carried-ask Position m = refl
@@ -83,7 +86,9 @@ apply-ask r m q g i =
     let short = leb-true _ _ (both-left _ _ (every-member sendable q requests-sendable)) in
     ap (λ (c : Call). apply c m) (ask-is aa r)
     ∙ apply-string _ _ m g refl
-    ∙ ap answered (told-own (requestText r) m (own-small m g) i short ∙ ap (λ c. carriedOut c aa m) parsed ∙ carried-ask r m)
+    ∙ ap answered
+    (told-own (requestText r) m (own-small m g) i short ∙ ap (λ c. carriedOut (allowed c (m .state)) (ownAddress m) m) parsed
+    ∙ carried-ask r m)
 
 -- asking changes nothing, and is answered
 pub look-ask : (r : Request) (m : Machine) → List·Memᴰ r requests → Good m → idle (m .state) ≡ true → look (ask (own m) r) m .answer ≡ answerTo r m

@@ -19,6 +19,7 @@ use Rattle.laws.proofs.Tables.{every-at}
 use Rattle.fields.specs.Kinds.{valid, validSigned}
 use Rattle.fields.specs.Rows.{allValid}
 use Rattle.fields.specs.declared.kinds.Kind.the-variants.{Next}
+use Rattle.units.specs.Limits.{stepLimit, delayLimit}
 use Rattle.units.specs.Bits.{bitsOf}
 use Rattle.units.specs.Remaining.{isNegativeOf}
 use Rattle.units.specs.declared.CellAddress.{CellAddress}
@@ -26,7 +27,7 @@ use Rattle.units.specs.declared.Milliseconds.{Milliseconds}
 use Rattle.units.specs.declared.Steps.{Steps}
 use Rattle.units.specs.declared.position.Position.{Position}
 use Rattle.instruction.specs.Codes.{codeOf}
-use Rattle.instruction.specs.Formats.{fieldsOf, fieldsIn, ramp}
+use Rattle.format.specs.Formats.{fieldsOf, fieldsIn, ramp}
 use Rattle.instruction.specs.Numbers.{numbersWith}
 use Rattle.instruction.specs.Runs.{profileOf, noRun, indexedRun, freeRun, searchRun, stoppedRun}
 use Rattle.instruction.specs.Soundness.{stepsWithin, canonical, cellSound}
@@ -98,19 +99,19 @@ ramp-sound : (r : ℕ) → valid ramp r ≡ true → not (eqb r 0) ≡ true
 unfolding valid
 ramp-sound r t = ap not (ne-eqb r 0 (λ e. omega (arith, leb-true 10 r (both-left _ _ t))))
 
-within-small : (n : Steps) → stepsWithin n ≡ true → natAbs (n .0) ≤ 8388607
+within-small : (n : Steps) → stepsWithin n ≡ true → natAbs (n .0) ≤ stepLimit
 unfolding stepsWithin
-within-small n t = leb-true (natAbs (n .0)) 8388607 t
+within-small n t = leb-true (natAbs (n .0)) stepLimit t
 
 -- the bits of a negative number are too many for a 05
-not-negative : (z : ℤ) → natAbs z ≤ 8388607 → ofZ w32 z ≤ 8388607 → ltZ z (pos 0) ≡ false
+not-negative : (z : ℤ) → natAbs z ≤ stepLimit → ofZ w32 z ≤ stepLimit → ltZ z (pos 0) ≡ false
 not-negative (pos k) h l = le-ltb k 0 (omega arith)
 not-negative (negsuc k) h l = absurd (omega arith)
 
--- what a sound instruction's run satisfies: 03 and 05 have a ramp, n is within 8,388,607, and that of a 05 is not negative
+-- what a sound instruction's run satisfies: 03 and 05 have a ramp, n is within its limit, and that of a 05 is not negative
 pub record SoundRun (p : Profile) : Type 0 where
   pub ramped : either (brakingPhase (p .motion)) (backPhase (p .motion)) ≡ true → hasRamp p ≡ true
-  pub small : natAbs (p .steps .0) ≤ 8388607
+  pub small : natAbs (p .steps .0) ≤ stepLimit
   pub onward : brakingPhase (p .motion) ≡ true → isNegativeOf (p .steps) ≡ false
 
 no-run : SoundRun noRun
@@ -129,7 +130,7 @@ search-run : (h r : ℕ) (s : Bool) (l : ℕ) → valid ramp r ≡ true → Soun
 unfolding brakingPhase hasRamp
 search-run h r s l v = record { ramped = λ t. ramp-sound r v; small = lit≤ tt; onward = λ t. clash t }
 
-stopped-run : (h r : ℕ) (t : Travel) (n : Steps) → valid ramp r ≡ true → stepsWithin n ≡ true → bitsOf n ≤ 8388607 → SoundRun (stoppedRun h r t n)
+stopped-run : (h r : ℕ) (t : Travel) (n : Steps) → valid ramp r ≡ true → stepsWithin n ≡ true → bitsOf n ≤ stepLimit → SoundRun (stoppedRun h r t n)
 unfolding hasRamp isNegativeOf
 stopped-run h r t n v w b =
     record { ramped = λ u. ramp-sound r v; small = within-small n w; onward = λ u. not-negative (n .0) (within-small n w) b }
@@ -164,7 +165,7 @@ run-sound c t = run-in (c .instruction) (c .next .0) (both-left _ _ t) (both-rig
 -- 01: "n is ±nnn within 8,388,607 each way"
 pub steps-within : (c : Cell) → cellSound c ≡ true → stepsWithin (profileOf (c .instruction) .steps) ≡ true
 unfolding stepsWithin
-steps-within c t = le-leb _ 8388607 (run-sound c t .small)
+steps-within c t = le-leb _ stepLimit (run-sound c t .small)
 
 -- ---- what the other codes hold
 
@@ -194,7 +195,7 @@ module _ (next : CellAddress) where
   jump-cell i v j t = third _ _ _ _ (both-left _ _ t)
 
   -- 01: "65 nnn (0 to 65,535)"
-  pub delay-cell : (n : Milliseconds) → cellSound (record { instruction = TimeDelay n; next = next }) ≡ true → n .0 ≤ 65535
+  pub delay-cell : (n : Milliseconds) → cellSound (record { instruction = TimeDelay n; next = next }) ≡ true → n .0 ≤ delayLimit
   unfolding cellSound allValid fieldsOf fieldsIn choose codeOf numbersWith valid
   delay-cell n t = leb-true _ _ (both-right _ _ (both-left _ _ (both-left _ _ t)))
 

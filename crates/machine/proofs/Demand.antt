@@ -18,7 +18,7 @@ use Rattle.machine.specs.Strings.{silent}
 use Rattle.machine.specs.Calls.{Call, Outcome, Seen, isByte, proper, answered, apply, look, seen}
 use Rattle.machine.specs.Reading.{Request, requests, requestText, ask, reading}
 use Rattle.machine.specs.Reading.Request.{Position}
-use Rattle.machine.specs.Demand3.{Reached, Alike, Demand3}
+use Rattle.machine.specs.Demand3.{Begun, Reached, Alike, Demand3}
 use Rattle.machine.specs.declared.Machine.{Machine}
 use Rattle.machine.proofs.Invariant.{Good, good-fresh, good-after}
 use Rattle.machine.proofs.Members.{every-member, every-map, every-append}
@@ -28,8 +28,11 @@ use Rattle.machine.proofs.Answering.{answers, answerTo, own-small, appl
 use Rattle.machine.proofs.Readings.{machines-same}
 use Rattle.machine.proofs.WritingBack.{all-back}
 
+begun-good : (m : Machine) → Begun m → Good m
+begun-good m (Begun.made address small) = good-fresh address small
+
 reached-good : (m : Machine) → Reached m → Good m
-reached-good m r = subst Good (r .made) (good-after (r .calls) _ (good-fresh (r .address) (r .small)))
+reached-good m r = subst Good (r .made) (good-after (r .calls) _ (begun-good (r .start) (r .begun)))
 
 -- ---- the reading as a list of calls
 

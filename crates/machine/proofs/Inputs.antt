@@ -13,7 +13,9 @@ use Rattle.instruction.specs.Numbers.{bitOf}
 use Rattle.instruction.specs.declared.Cell.{Cell}
 use Rattle.machine.specs.Record.{inputAt, inS0}
 use Rattle.machine.specs.Soundness.{isCell}
-use Rattle.machine.specs.InputWords.{bitsFrom, inputsOf, selectedCell, starts, judgedST, judgedEE, judgedES, judgedPX, inputWord}
+use Rattle.machine.specs.Milliseconds.{present}
+use Rattle.machine.specs.Stopping.{freeRunStop, pxSeen, emergencyStop}
+use Rattle.machine.specs.InputWords.{bitsFrom, inputsOf, selectedCell, starts, judgedST, judgedEE, judgedES, judgedPX, judgedWord, inputWord}
 use Rattle.machine.specs.declared.State.{State}
 use Rattle.machine.proofs.Cells.{Memory}
 use Rattle.machine.proofs.Parts.{Parts, inputs-sound}
@@ -44,19 +46,19 @@ module _ {cells : List Cell} (m : Memory cells) where
   unfolding judgedST
   judged-start before {s} g = choose-by (Parts cells) (starts before s) (λ t. started-sound g (selectedCell s) (selected-cell s)) (λ t. g)
 
-  judged-emergency : {s : State} → Parts cells s → Parts cells (judgedEE cells s)
-  unfolding judgedEE
+  judged-emergency : {s : State} → Parts cells s → Parts cells (judgedEE s (present cells s))
+  unfolding judgedEE emergencyStop
   judged-emergency g = choose-by (Parts cells) _ (λ t. emergency-sound m g) (λ t. g)
 
-  judged-stop : {s : State} → Parts cells s → Parts cells (judgedES cells s)
-  unfolding judgedES
+  judged-stop : {s : State} → Parts cells s → Parts cells (judgedES s (present cells s))
+  unfolding judgedES freeRunStop
   judged-stop g = choose-by (Parts cells) _ (λ t. stop-sound m g) (λ t. g)
 
-  judged-px : {s : State} → Parts cells s → Parts cells (judgedPX cells s)
-  unfolding judgedPX
+  judged-px : {s : State} → Parts cells s → Parts cells (judgedPX s (present cells s))
+  unfolding judgedPX pxSeen
   judged-px g = px-sound m g _
 
   -- 01: "ST is judged on the drive as it stood before the word, with the word's other inputs; then EE, ES and PX"
   pub word-sound : (w : ℕ) {s : State} → Parts cells s → Parts cells (inputWord w cells s)
-  unfolding inputWord inputsOf
+  unfolding judgedWord inputWord inputsOf
   word-sound w {s} g = judged-px (judged-stop (judged-emergency (judged-start s (inputs-sound g (inputsOf w) (length-bits 11 w)))))

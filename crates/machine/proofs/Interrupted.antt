@@ -21,13 +21,14 @@ use Rattle.fields.specs.Rows.{printFields, allGood, allValid}
 use Rattle.fields.proofs.RoundTrip.{print-injective}
 use Rattle.fields.specs.declared.kinds.Kind.{Kind}
 use Rattle.fields.specs.declared.kinds.Kind.the-variants.{Count}
+use Rattle.units.specs.Limits.{loopLimit, restLimit}
 use Rattle.units.specs.Bits.{stepsOf, bitsOf}
 use Rattle.units.specs.Remaining.{isZeroOf}
 use Rattle.units.proofs.Integers.{sfits-natAbs}
 use Rattle.units.proofs.Complement.{steps-bits, ofZ-zero}
 use Rattle.units.specs.declared.Steps.{Steps}
 use Rattle.units.specs.declared.Milliseconds.{Milliseconds}
-use Rattle.instruction.specs.Formats.{cell}
+use Rattle.format.specs.Formats.{cell}
 use Rattle.instruction.specs.Codes.{codeOf}
 use Rattle.instruction.specs.Runs.{profileOf}
 use Rattle.instruction.specs.declared.Cell.{Cell}
@@ -49,7 +50,7 @@ use Rattle.machine.proofs.Showing.{within-valid, signed-valid}
 
 steps-fit : (n : Steps) → stepsRest n ≡ true → SFits w32 (n .0)
 unfolding stepsRest
-steps-fit n h = sfits-natAbs w32 (n .0) 33554428 (leb-true _ _ (both-left _ _ h)) (lit< tt)
+steps-fit n h = sfits-natAbs w32 (n .0) restLimit (leb-true _ _ (both-left _ _ h)) (lit< tt)
 
 steps-not-zero : (n : Steps) → stepsRest n ≡ true → bitsOf n ≡ 0 → ⊥
 unfolding stepsRest isZeroOf
@@ -58,7 +59,7 @@ steps-not-zero n h e =
     let f : not (eqb (natAbs (n .0)) 0) ≡ true = both-right _ _ h in
     clash (ap not (sym z) ∙ f)
 
-time-least : (n : Milliseconds) → timeRest n ≡ true → (1 ≤ n .0) × (n .0 ≤ 33554428)
+time-least : (n : Milliseconds) → timeRest n ≡ true → (1 ≤ n .0) × (n .0 ≤ restLimit)
 unfolding timeRest
 time-least n h = (leb-true _ _ (both-left _ _ h), leb-true _ _ (both-right _ _ h))
 
@@ -105,7 +106,7 @@ empty-is cells r h t =
 -- what is known of a record that is not empty
 record Held (cells : List Cell) (r : Suspended) : Type 0 where
   cell : isCell (r .cell) ≡ true
-  count : r .loops ≤ 65535
+  count : r .loops ≤ loopLimit
   rest : suspendedRest (r .remaining) (cellAt cells (r .cell) .instruction) ≡ true
 
 held-is : (cells : List Cell) (r : Suspended) → suspendedSound cells r ≡ true → eqb (r .cell .0) 0 ≡ false → Held cells r
@@ -119,7 +120,7 @@ held-is cells r h f =
     }
 
 abbrev heldKinds : List Kind
-heldKinds = cell ∷ anySigned ∷ Count 0 65535 ∷ []
+heldKinds = cell ∷ anySigned ∷ Count 0 loopLimit ∷ []
 
 abbrev heldValues : Suspended → List ℕ
 heldValues r = r .cell .0 ∷ remainingBits (r .remaining) ∷ r .loops ∷ []

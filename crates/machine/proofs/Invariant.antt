@@ -1,7 +1,7 @@
 -- The invariant: whatever calls a drive gets, a fresh one stays sound.
 -- Assumes nothing.
 use Prim.Native.Nat.{ℕ, _≤_}
-use mathlib.Core.Path.{_≡_, refl}
+use mathlib.Core.Path.{_≡_, refl, ap}
 use mathlib.Core.Bool.{true}
 use mathlib.Core.List.{List, [], _∷_}
 use mathlib.Core.Logic.{_≢_}
@@ -14,13 +14,13 @@ use Rattle.laws.proofs.Tests.{both-left, both-right, both-true, choose-by}
 use Rattle.fields.specs.Kinds.{valid}
 use Rattle.fields.specs.Rows.{allValid}
 use Rattle.instruction.specs.Codes.{codeOf}
-use Rattle.instruction.specs.Formats.{fieldsOf, fieldsIn}
+use Rattle.format.specs.Formats.{fieldsOf, fieldsIn}
 use Rattle.instruction.specs.Numbers.{numbersWith}
 use Rattle.instruction.specs.Soundness.{canonical, cellSound}
 use Rattle.machine.specs.Record.{fresh, idle, moving, atRest}
 use Rattle.machine.specs.Soundness.{presetsSound, positionSound, camSound, faultSound, suspendedSound, isNothing, isWaiting, restingSound, runningSound, stateSound, sound}
 use Rattle.machine.specs.Reports.{takesAtSpeed, takesHalted}
-use Rattle.machine.specs.Calls.{Call, Outcome, act, apply, next, after}
+use Rattle.machine.specs.Calls.{Call, Outcome, refused, act, apply, next, after}
 use Rattle.machine.specs.Calls.Call.{SendString, SetInputs, Millisecond, Step, AtSpeed, Halted, Wait}
 use Rattle.machine.specs.declared.Remaining.{Remaining}
 use Rattle.machine.specs.declared.Remaining.the-variants.{Nothing, Counted, Timed}
@@ -115,9 +115,9 @@ sound-next c m n i o t =
 
 -- ---- refusals
 
--- what is refused leaves the drive as it came
+-- what is refused hands back its number, and the drive as it came
 abbrev Same : Machine → Outcome → Type 0
-Same m o = o .refusal ≢ 0 → o .machine ≡ m
+Same m o = o .refusal ≢ 0 → o ≡ refused (o .refusal) m
 
 act-same : (c : Call) (m : Machine) → Same m (act c m)
 unfolding act
@@ -130,9 +130,9 @@ act-same Halted m = choose-by (Same m) (takesHalted (m .state)) (λ t n. absurd 
 act-same (Wait n) m = choose-by (Same m) _ (λ t k. absurd (k refl)) (λ t k. refl)
 
 -- 01: "Every refusal hands back its number, the drive as it came, and untouched buffers"
-pub refused-same : (c : Call) (m : Machine) → apply c m .refusal ≢ 0 → apply c m .machine ≡ m
+pub refused-whole : (c : Call) (m : Machine) → apply c m .refusal ≢ 0 → apply c m ≡ refused (apply c m .refusal) m
 unfolding apply
-refused-same c m = choose-by (Same m) (sound m) (λ t. act-same c m) (λ t n. refl)
+refused-whole c m = choose-by (Same m) (sound m) (λ t. act-same c m) (λ t n. refl)
 
 -- ---- idle
 
@@ -166,10 +166,10 @@ idle-rests m g t =
 
 -- ---- the statement
 
-good-kept : (m : Machine) → Good m → Kept m
+pub good-kept : (m : Machine) → Good m → Kept m
 good-kept m g = record { cells = g .count; inputs = g .inputs; outputs = g .outputs; sound = good-sound m g }
 
-kept-good : (m : Machine) → Kept m → Good m
+pub kept-good : (m : Machine) → Kept m → Good m
 unfolding sound
 kept-good m k =
     record {
@@ -185,7 +185,7 @@ invariant =
     record {
       begins = λ a h. good-kept _ (good-fresh a h);
       goes = λ c m k. good-kept _ (good-next c m (kept-good m k));
-      refuses = refused-same;
+      refuses = λ c m n. ap (λ (o : Outcome). o .machine) (refused-whole c m n);
       rests = λ m k. idle-rests m (kept-good m k);
       waits = wait-least;
     }

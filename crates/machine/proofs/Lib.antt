@@ -1,15 +1,20 @@
--- The starred table: Starred.
+-- Tables of cases: Starred, Worked; Computing (the definitions opened for them).
 -- What soundness says: Cells (of a cell and its run), Parts (of a state, part by part), Rests (of what remains of a run or a delay),
 -- Places (of the places of the memory that a drive names).
 -- What keeps a state sound: Going (what events are made of), Taking (each code), Milliseconds (and waits), Stopping (stops and PX),
--- Reports (at-speed and halted), Stepping, Inputs.
+-- Reports (at-speed and halted), Stepping, Inputs. Words: an inputs word needs only the cell that was present before it.
 -- What keeps a drive sound: Ranges (what a string asks for), Storing (a cell), Hearing (a string), Invariant (every call: the theorem).
 -- Waits: a wait gives the least number of milliseconds. Tests: laws of tests and lists that are not particular to the drive.
 -- What a drive answers: Addressing (strings at its own address and at another's), Requests (the 165, parsed in one computed test), Answering (the
 -- answer to each). Members: members of lists.
 -- What an answer shows: Texts (from a text to its values), Showing (the parts of the state), Interrupted (the interrupted record), Readings (equal
 -- readings are readings of equal drives). WritingBack: a cell's answer sent back changes nothing. Demand: demand 3, the theorem.
+-- Demand1: demand 1, the theorem. Demand2Hearing (what is heard of a WN and of other codes), Demand2Strings (what a WN leaves, and that nothing else
+-- changes a cell), Demand2Rows (which WN is answered Y), Demand2Frequency (the frequency of a 21 or 22), Demand2Settings (the other strings that store),
+-- Demand2: demand 2, the theorem.
+mod Computing
 mod Starred
+mod Worked
 mod Tests
 pub mod Cells
 pub mod Parts
@@ -22,9 +27,10 @@ pub mod Stopping
 pub mod Reports
 pub mod Stepping
 pub mod Inputs
+pub mod Words
 pub mod Ranges
-mod Storing
-mod Hearing
+pub mod Storing
+pub mod Hearing
 pub mod Waits
 pub mod Invariant
 mod Members
@@ -35,5 +41,12 @@ mod Texts
 pub mod Showing
 mod Interrupted
 pub mod Readings
-mod WritingBack
+pub mod WritingBack
 pub mod Demand
+mod Demand1
+mod Demand2Hearing
+mod Demand2Strings
+mod Demand2Rows
+mod Demand2Frequency
+mod Demand2Settings
+mod Demand2

@@ -10,11 +10,11 @@ use borrow.Author.Tests.{leb-false}
 use Rattle.laws.proofs.Tests.{both-left, both-right, choose-by, choose-true, choose-false}
 use Rattle.instruction.specs.declared.Cell.{Cell}
 use Rattle.instruction.specs.declared.run.Motion.{Motion}
-use Rattle.instruction.specs.declared.run.Motion.the-variants.{NoRun, IndexedRun, FreeRun, SearchRun, StoppedRun}
+use Rattle.instruction.specs.declared.run.Motion.the-variants.{NoRun, IndexedRun, FreeRun, SearchRun, DelayedStopRun}
 use Rattle.machine.specs.Record.{cellAt, idle}
 use Rattle.machine.specs.Soundness.{isCell, loopCountSound, isSteps, isTime, isIndexed, suspendedRest, suspendedSound, runPhase, hasPhase, busyRest, markSound}
-use Rattle.machine.specs.Milliseconds.{present, countDown, millisecondIn, millisecond}
-use Rattle.machine.specs.Taking.{resume, restored, recover, recoverWith, takeCell}
+use Rattle.machine.specs.Milliseconds.{present, held, countDown, millisecondIn, millisecondAt, millisecond}
+use Rattle.machine.specs.Taking.{resume, restored, recover, takeCell}
 use Rattle.machine.specs.Waiting.{settled, waitFrom, wait}
 use Rattle.machine.specs.declared.Remaining.{Remaining}
 use Rattle.machine.specs.declared.Remaining.the-variants.{Nothing, Counted, Timed}
@@ -34,7 +34,7 @@ indexed-runs NoRun t = clash t
 indexed-runs IndexedRun t = refl
 indexed-runs FreeRun t = refl
 indexed-runs SearchRun t = refl
-indexed-runs StoppedRun t = refl
+indexed-runs DelayedStopRun t = refl
 
 module _ {cells : List Cell} (m : Memory cells) {s : State} (g : Parts cells s) where
   -- 01, of 69: "resumed in the same millisecond, with its rest as shift or delay .., or taken anew if rest is 0"
@@ -52,8 +52,8 @@ module _ {cells : List Cell} (m : Memory cells) {s : State} (g : Parts cells s) 
       entered-sound (waiting-sound (emptied-sound g) _ _ c l) c l _ refl (both-left _ _ t) (both-right _ _ t) refl
 
   -- 01: "69: empty record ends the program"
-  recover-sound : Parts cells (recover cells s)
-  unfolding recover recoverWith suspendedSound
+  recover-sound : Parts cells (recover s (held cells s))
+  unfolding recover held suspendedSound
   recover-sound =
       choose-by (Parts cells) (eqb (s .suspended .cell .0) 0) (λ t. stopped-sound g)
       (λ t. let u = sym (choose-false _ _ _ t) ∙ g .suspended in
@@ -75,7 +75,7 @@ module _ {cells : List Cell} (m : Memory cells) {s : State} (g : Parts cells s) 
         mark = b .mark;
       }) refl)
 
-  millisecond-in : (p : Phase) → BusyIn cells s p → Parts cells (millisecondIn p cells s)
+  millisecond-in : (p : Phase) → BusyIn cells s p → Parts cells (millisecondIn p s (present cells s) (held cells s))
   unfolding millisecondIn takeCell busyRest
   millisecond-in Waiting b = choose-by (Parts cells) _ (λ t. recover-sound) (λ t. take-sound g (b .cell) (b .loops) m)
   millisecond-in Delay b = delay-sound (s .running .remaining) (b .rest) b
@@ -87,7 +87,7 @@ module _ {cells : List Cell} (m : Memory cells) {s : State} (g : Parts cells s) 
 
   -- 01: "Each millisecond outside a run or delay takes the present cell"
   pub millisecond-sound : Parts cells (millisecond cells s)
-  unfolding millisecond
+  unfolding millisecond millisecondAt
   millisecond-sound = choose-by (Parts cells) (idle s) (λ t. g) (λ t. millisecond-in (s .running .phase) (running-busy g t))
 
 waits-sound : {cells : List Cell} → Memory cells → (n : ℕ) (b : Bool) (s : State) → Parts cells s → Parts cells (waitFrom n b cells s .last)

@@ -17,7 +17,7 @@ use Rattle.fields.specs.declared.kinds.Kind.the-variants.{Next}
 use Rattle.fields.proofs.Bounds.{valid-next}
 use Rattle.units.specs.declared.CellAddress.{CellAddress}
 use Rattle.instruction.specs.Codes.{codeOf}
-use Rattle.instruction.specs.Formats.{fieldsOf, fieldsIn}
+use Rattle.format.specs.Formats.{fieldsOf, fieldsIn}
 use Rattle.instruction.specs.Numbers.{numbersWith}
 use Rattle.instruction.specs.Soundness.{canonical, cellSound}
 use Rattle.instruction.specs.declared.Cell.{Cell}

@@ -11,7 +11,7 @@ use borrow.Author.Tests.{le-leb}
 use Rattle.laws.proofs.Tests.{both-true}
 use Rattle.fields.specs.Rows.{printFields}
 use Rattle.units.specs.declared.CellAddress.{CellAddress}
-use Rattle.instruction.specs.Formats.{cell}
+use Rattle.format.specs.Formats.{cell}
 use Rattle.instruction.specs.Soundness.{cellSound}
 use Rattle.instruction.specs.declared.Cell.{Cell as Content}
 use Rattle.machine.specs.Record.{cellAt, nullCell, idle}
@@ -27,7 +27,7 @@ use Rattle.instruction.proofs.Sending.{text-injective}
 use Rattle.machine.proofs.Members.{map-at}
 use Rattle.machine.proofs.Requests.{cell-asked, preset-asked, position-asked, output-asked, input-asked, cam-asked, fault-asked}
 use Rattle.machine.proofs.Requests.{suspended-asked}
-use Rattle.machine.proofs.Addressing.{own}
+use Rattle.machine.proofs.Addressing.{ownAddress}
 use Rattle.machine.proofs.Answering.{codeFor, textFor, answerTo, reading-is}
 use Rattle.machine.proofs.Texts.{answer-fields}
 use Rattle.machine.proofs.Showing.{presets-same, position-same, inputs-same, outputs-same, cam-same, fault-same}
@@ -102,7 +102,7 @@ texts-same m n g h i j e =
       left = g;
       right = h;
       texts = λ r q.
-          answer-fields (own m) (own n) (codeFor r) _ _
+          answer-fields (ownAddress m) (ownAddress n) (codeFor r) _ _
           (map-at (λ (r : Request). answerTo r m) (λ (r : Request). answerTo r n) q (sym (reading-is m g i) ∙ e ∙ reading-is n h j));
     }
 

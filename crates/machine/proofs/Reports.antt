@@ -7,11 +7,11 @@ use Rattle.laws.specs.Tests.{choose}
 use Rattle.laws.proofs.Tests.{choose-by, either-true-left}
 use Rattle.instruction.specs.declared.Cell.{Cell}
 use Rattle.instruction.specs.declared.run.Motion.{Motion}
-use Rattle.instruction.specs.declared.run.Motion.the-variants.{NoRun, IndexedRun, FreeRun, SearchRun, StoppedRun}
+use Rattle.instruction.specs.declared.run.Motion.the-variants.{NoRun, IndexedRun, FreeRun, SearchRun, DelayedStopRun}
 use Rattle.instruction.specs.declared.run.Profile.{Profile}
 use Rattle.machine.specs.Soundness.{isNothing, isIndexed, hasRamp, backPhase, hasPhase, emergencyRest, busyRest, markSound, isWaiting}
 use Rattle.machine.specs.Milliseconds.{present}
-use Rattle.machine.specs.Reports.{runsOrBrakes, takesAtSpeed, takesAtSpeedIn, atSpeed, haltedSlowing, haltedEmergency, haltedIn, halted}
+use Rattle.machine.specs.Reports.{runsOrBrakes, takesAtSpeed, takesAtSpeedAt, takesAtSpeedIn, atSpeed, haltedSlowing, haltedEmergency, haltedIn, haltedAt, halted}
 use Rattle.machine.specs.declared.Phase.{Phase}
 use Rattle.machine.specs.declared.Phase.the-variants.{Waiting, Delay, Run, Braking, Slowing, EmergencySlowing, BackOff}
 use Rattle.machine.specs.declared.State.{State}
@@ -24,7 +24,7 @@ use Rattle.machine.proofs.Taking.{entered-sound}
 
 -- a mark is set where there is a ramp
 speed-mark : (p : Phase) (r : Profile) → choose (runsOrBrakes p) (hasRamp r) false ≡ true → markSound p r true ≡ true
-unfolding choose runsOrBrakes markSound
+unfolding choose markSound
 speed-mark Waiting r t = clash t
 speed-mark Delay r t = clash t
 speed-mark Run r t = either-true-left _ _ t
@@ -34,7 +34,7 @@ speed-mark EmergencySlowing r t = refl
 speed-mark BackOff r t = clash t
 
 speed-busy : (p : Phase) (b : Bool) → choose (runsOrBrakes p) b false ≡ true → isWaiting p ≡ false
-unfolding choose runsOrBrakes isWaiting
+unfolding choose isWaiting
 speed-busy Waiting b t = clash t
 speed-busy Delay b t = refl
 speed-busy Run b t = refl
@@ -45,7 +45,7 @@ speed-busy BackOff b t = refl
 
 -- 01: "At-speed sets the mark"
 pub speed-sound : {cells : List Cell} {s : State} → Parts cells s → takesAtSpeed cells s ≡ true → Parts cells (atSpeed s)
-unfolding takesAtSpeed takesAtSpeedIn atSpeed hasRamp
+unfolding takesAtSpeed takesAtSpeedAt takesAtSpeedIn hasRamp
 speed-sound {s = s} g t =
     let b = phase-busy g (speed-busy (s .running .phase) _ t) in
     phase-sound g
@@ -62,7 +62,7 @@ module _ {cells : List Cell} (m : Memory cells) {s : State} (g : Parts cells s) 
   halted-slowing b FreeRun e = goes-on m g b
   halted-slowing b SearchRun e =
       choose-by (Parts cells) _ (λ t. entered-sound g (b .cell) (b .loops) _ refl (ap backPhase e) refl refl) (λ t. goes-on m g b)
-  halted-slowing b StoppedRun e = goes-on m g b
+  halted-slowing b DelayedStopRun e = goes-on m g b
 
   -- 01: "the record is cell, rest .., loop count; after a 05 under way it is empty"
   halted-emergency :
@@ -73,7 +73,7 @@ module _ {cells : List Cell} (m : Memory cells) {s : State} (g : Parts cells s) 
   halted-emergency b IndexedRun e r = interrupted-sound g (b .cell) (b .loops) (steps-suspended _ _ r (ap isIndexed e))
   halted-emergency b FreeRun e r = interrupted-sound g (b .cell) (b .loops) (nothing-suspended _ _ r)
   halted-emergency b SearchRun e r = interrupted-sound g (b .cell) (b .loops) (nothing-suspended _ _ r)
-  halted-emergency b StoppedRun e r = abandoned-sound g
+  halted-emergency b DelayedStopRun e r = abandoned-sound g
 
   halted-in :
       (p : Phase) → (isWaiting p ≡ false → BusyIn cells s p) →
@@ -88,5 +88,5 @@ module _ {cells : List Cell} (m : Memory cells) {s : State} (g : Parts cells s) 
   halted-in BackOff b = g
 
   pub halted-sound : Parts cells (halted cells s)
-  unfolding halted
+  unfolding halted haltedAt
   halted-sound = halted-in (s .running .phase) (phase-busy g)

@@ -16,7 +16,7 @@ use Rattle.fields.specs.Names.{pairOf, listed, listOf, placeFrom}
 use Rattle.fields.specs.Reader.{fieldLength, fieldAt}
 use Rattle.fields.specs.Kinds.{nameOf, parseField, lettersOf, printField}
 use Rattle.fields.specs.Rows.{fieldsFrom, parseFields, ended, parseAll, printFields}
-use Rattle.machine.specs.Commands.{codeIn, hasCode, onFields, onAll, commandOf}
+use Rattle.machine.specs.Commands.{codeIn, isCode, onFields, onAll, commandBy, commandOf}
 use Rattle.machine.specs.Calls.{isByte}
 use Rattle.machine.specs.Reading.{Request, places, requests, requestText}
 use Rattle.machine.specs.Reading.Request.{Cell, Preset, Position, Output, Input, Cam, Fault, Suspended}
@@ -48,7 +48,7 @@ fields = tt
 
 -- the whole string
 parsing : Unit {0}
-unfolding texts fields commandFor commandOf hasCode codeIn onAll onFields choose both either
+unfolding texts fields commandFor commandOf commandBy isCode codeIn onAll onFields choose both either
 parsing = tt
 
 -- after any two bytes of an address, each request is the command that it stands for

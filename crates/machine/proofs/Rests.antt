@@ -10,6 +10,7 @@ use lib.Signed.{ltZ}
 use borrow.Author.Tests.{leb-true, le-leb, eqb-false, ne-eqb, le-ltb}
 use Rattle.laws.specs.Tests.{choose, both, same}
 use Rattle.laws.proofs.Tests.{both-left, both-right, both-true, choose-by, choose-true, choose-false}
+use Rattle.units.specs.Limits.{stepLimit, restLimit}
 use Rattle.units.specs.Remaining.{isZeroOf, isNegativeOf, nearerOf}
 use Rattle.units.specs.Shift.{Within, multiplierOf, scaledOf}
 use Rattle.units.specs.declared.Milliseconds.{Milliseconds}
@@ -20,7 +21,7 @@ use Rattle.instruction.specs.Runs.{profileOf}
 use Rattle.instruction.specs.declared.Instruction.{Instruction}
 use Rattle.instruction.specs.declared.run.Profile.{Profile}
 use Rattle.machine.specs.Soundness.{stepsRest, timeRest, isNothing, isSteps, isTime, isStepsAlong, isIndexed, isDelay, suspendedRest, brakingPhase, busyRest}
-use Rattle.machine.specs.Stopping.{brakingSteps}
+use Rattle.machine.specs.Stopping.{brakingCount, brakingSteps}
 use Rattle.machine.specs.declared.Remaining.{Remaining}
 use Rattle.machine.specs.declared.Remaining.the-variants.{Nothing, Counted, Timed}
 use Rattle.machine.specs.declared.Phase.the-variants.{Run}
@@ -56,20 +57,20 @@ record Positive (z : ℤ) : Type 0 where
   number : ℕ
   is : z ≡ pos number
   some : 1 ≤ number
-  few : number ≤ 33554428
+  few : number ≤ restLimit
 
 -- that many along a direction
 along-steps : (b : Bool) (z : ℤ) → Positive z → isStepsAlong b (Counted (record { 0 = choose b (negℤ z) z })) ≡ true
 along-steps b z p = rw (p .is) (along b (p .number) (p .some) (p .few))
   where
-    along : (c : Bool) (k : ℕ) → 1 ≤ k → k ≤ 33554428 → isStepsAlong c (Counted (record { 0 = choose c (negℤ (pos k)) (pos k) })) ≡ true
+    along : (c : Bool) (k : ℕ) → 1 ≤ k → k ≤ restLimit → isStepsAlong c (Counted (record { 0 = choose c (negℤ (pos k)) (pos k) })) ≡ true
     along c zero l h = absurd (omega arith)
     along true (suc k) l h =
         unfold isStepsAlong stepsRest choose isZeroOf isNegativeOf same in
-        both-true (both-true (le-leb (suc k) 33554428 h) (ap not (ne-eqb (suc k) 0 (λ e. omega arith)))) refl
+        both-true (both-true (le-leb (suc k) restLimit h) (ap not (ne-eqb (suc k) 0 (λ e. omega arith)))) refl
     along false (suc k) l h =
         unfold isStepsAlong stepsRest choose isZeroOf isNegativeOf same in
-        both-true (both-true (le-leb (suc k) 33554428 h) (ap not (ne-eqb (suc k) 0 (λ e. omega arith))))
+        both-true (both-true (le-leb (suc k) restLimit h) (ap not (ne-eqb (suc k) 0 (λ e. omega arith))))
         (ap (λ (c : Bool). same c false) (le-ltb (suc k) 0 (omega arith)))
 
 -- a number that is not negative
@@ -79,7 +80,7 @@ forward-number (negsuc k) t = clash (sym t)
 
 -- n×m, of an n that is neither negative nor 0
 scaled-positive :
-    (n : Steps) (x4 : Bool) → natAbs (n .0) ≤ 8388607 → isNegativeOf n ≡ false → isZeroOf n ≡ false → Positive (scaledOf n x4)
+    (n : Steps) (x4 : Bool) → natAbs (n .0) ≤ stepLimit → isNegativeOf n ≡ false → isZeroOf n ≡ false → Positive (scaledOf n x4)
 unfolding isNegativeOf isZeroOf scaledOf multiplierOf choose
 scaled-positive n true h t z =
     let k = natAbs (n .0) in
@@ -93,7 +94,7 @@ scaled-positive n false h t z =
 -- 01, of 05: "nnn×m steps along s, or 1 if nnn is 0"
 pub braking-along :
     (p : Profile) → SoundRun p → brakingPhase (p .motion) ≡ true → isStepsAlong (p .backward) (Counted (brakingSteps p)) ≡ true
-unfolding brakingSteps
+unfolding brakingSteps brakingCount
 braking-along p g t =
     along-steps (p .backward) _
     (choose-by Positive (isZeroOf (p .steps)) (λ z. record { number = 1; is = refl; some = lit≤ tt; few = lit≤ tt })
@@ -101,11 +102,11 @@ braking-along p g t =
 
 -- ---- milliseconds
 
-pub time-sound : (n : ℕ) → 1 ≤ n → n ≤ 33554428 → isTime (Timed (record { 0 = n })) ≡ true
+pub time-sound : (n : ℕ) → 1 ≤ n → n ≤ restLimit → isTime (Timed (record { 0 = n })) ≡ true
 unfolding isTime timeRest
-time-sound n l h = both-true (le-leb 1 n l) (le-leb n 33554428 h)
+time-sound n l h = both-true (le-leb 1 n l) (le-leb n restLimit h)
 
-pub time-within : (n : Milliseconds) → isTime (Timed n) ≡ true → n .0 ≤ 33554428
+pub time-within : (n : Milliseconds) → isTime (Timed n) ≡ true → n .0 ≤ restLimit
 unfolding isTime timeRest
 time-within n t = leb-true _ _ (both-right _ _ t)
 

@@ -23,16 +23,15 @@ use Rattle.fields.specs.declared.kinds.Kind.{Kind}
 use Rattle.fields.specs.declared.kinds.Kind.the-variants.{Fixed, Name}
 use Rattle.fields.specs.declared.names.Names.the-variants.{Outputs, Inputs, Presets, Resolutions}
 use Rattle.units.specs.declared.position.Position.{Position}
-use Rattle.instruction.specs.Formats.{bit}
+use Rattle.format.specs.Formats.{bit}
 use Rattle.instruction.specs.Numbers.{bitOf, isOne}
 use Rattle.instruction.proofs.Values.{one-bit}
 use Rattle.instruction.proofs.TestsFields.{valid-value}
 use Rattle.machine.specs.Record.{inputAt, outputAt}
 use Rattle.machine.specs.Soundness.{presetsSound, isCell, positionSound, camSound, faultSound}
-use Rattle.machine.specs.Commands.{anySigned, presetKind}
+use Rattle.machine.specs.Commands.{anySigned, presetKind, resolutionAt}
 use Rattle.machine.specs.Answers.{resolutionPlace, presetValue, presetText, positionText, inputText, outputValue, outputText, camText}
 use Rattle.machine.specs.Answers.{faultText}
-use Rattle.machine.specs.Strings.{resolutionAt}
 use Rattle.machine.specs.declared.Resolution.{Resolution}
 use Rattle.machine.specs.declared.Resolution.the-variants.{D0, D1, D2, D3, B0, B1, B2, B3}
 use Rattle.machine.specs.declared.Presets.{Presets as PresetValues}

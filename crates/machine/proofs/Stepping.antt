@@ -15,12 +15,12 @@ use Rattle.units.specs.declared.position.Position.{Position}
 use Rattle.units.proofs.Stepping.{sfits-moved}
 use Rattle.instruction.specs.declared.Cell.{Cell}
 use Rattle.instruction.specs.declared.run.Motion.{Motion}
-use Rattle.instruction.specs.declared.run.Motion.the-variants.{NoRun, IndexedRun, FreeRun, SearchRun, StoppedRun}
+use Rattle.instruction.specs.declared.run.Motion.the-variants.{NoRun, IndexedRun, FreeRun, SearchRun, DelayedStopRun}
 use Rattle.instruction.specs.declared.run.Profile.{Profile}
 use Rattle.machine.specs.Record.{moving, underWay}
 use Rattle.machine.specs.Soundness.{positionSound, camSound, isNothing, isSteps, isTime, isIndexed, emergencyRest, busyRest, isWaiting}
 use Rattle.machine.specs.Milliseconds.{present}
-use Rattle.machine.specs.Stepping.{runsBackward, camTested, moved, movedBy, arrivedIn, counted, step}
+use Rattle.machine.specs.Stepping.{runsBackward, camTested, movedBy, arrivedIn, counted, stepAt, step}
 use Rattle.machine.specs.declared.Remaining.{Remaining}
 use Rattle.machine.specs.declared.Remaining.the-variants.{Nothing, Counted, Timed}
 use Rattle.machine.specs.declared.Phase.{Phase}
@@ -48,7 +48,7 @@ nearer-emergency NoRun p n t z = clash t
 nearer-emergency IndexedRun p n t z = nearer-steps n t z
 nearer-emergency FreeRun p n t z = clash t
 nearer-emergency SearchRun p n t z = clash t
-nearer-emergency StoppedRun p n t z = nearer-along (p .backward) n t z
+nearer-emergency DelayedStopRun p n t z = nearer-along (p .backward) n t z
 
 -- 01: "A rest of steps has the sign of its direction and loses one at each step"
 nearer-rest :
@@ -68,7 +68,7 @@ nearer-rest BackOff p n t z = clash t
 -- ---- a step
 
 moving-busy : (p : Phase) → underWay p ≡ true → isWaiting p ≡ false
-unfolding underWay isWaiting
+unfolding isWaiting
 moving-busy Waiting t = clash t
 moving-busy Delay t = refl
 moving-busy Run t = refl
@@ -108,10 +108,10 @@ module _ {cells : List Cell} (m : Memory cells) {s : State} (g : Parts cells s) 
 
 -- 01: "A step moves the position by one"; "O3 is complemented and the cam unset (position 0)"
 pub step-sound : {cells : List Cell} → Memory cells → {s : State} → Parts cells s → moving s ≡ true → Parts cells (step cells s)
-unfolding step moved movedBy camTested moving present camSound positionSound both either
+unfolding step stepAt movedBy camTested moving present camSound positionSound both either
 step-sound {cells} m {s} g t =
     let b = phase-busy g (moving-busy (s .running .phase) t) in
-    let q = position-sound g _ (stepped-sound (s .position) (not (runsBackward cells s))) in
+    let q = position-sound g _ (stepped-sound (s .position) (not (runsBackward s (present cells s)))) in
     choose-by (λ (u : State). Parts cells (counted (s .running .remaining) u (present cells s .next))) _
     (λ u. steps-counted m (cam-sound (output-sound q _ _) _ refl) (s .running .remaining) (b .rest) b)
     (λ u. steps-counted m q (s .running .remaining) (b .rest) b)

@@ -7,12 +7,12 @@ use Rattle.laws.specs.Tests.{choose}
 use Rattle.laws.proofs.Tests.{choose-by, either-true-left, either-true-right}
 use Rattle.instruction.specs.declared.Cell.{Cell}
 use Rattle.instruction.specs.declared.run.Motion.{Motion}
-use Rattle.instruction.specs.declared.run.Motion.the-variants.{NoRun, IndexedRun, FreeRun, SearchRun, StoppedRun}
+use Rattle.instruction.specs.declared.run.Motion.the-variants.{NoRun, IndexedRun, FreeRun, SearchRun, DelayedStopRun}
 use Rattle.instruction.specs.declared.run.Profile.{Profile}
 use Rattle.machine.specs.Record.{idle}
 use Rattle.machine.specs.Soundness.{isNothing, isSteps, isStepsAlong, isIndexed, hasRamp, brakingPhase, slowingPhase, backPhase, hasPhase, emergencyRest, busyRest, markSound, isWaiting}
 use Rattle.machine.specs.Milliseconds.{present}
-use Rattle.machine.specs.Stopping.{freeRunStopOf, freeRunStopIn, freeRunStop, pxInRun, pxSeenIn, pxSeen, emergencySlowed, emergencyIn, emergencyStop}
+use Rattle.machine.specs.Stopping.{freeRunStopOf, freeRunStopIn, freeRunStopAt, freeRunStop, pxInRun, pxSeenIn, pxSeenAt, pxSeen, emergencySlowed, emergencyIn, emergencyStopAt, emergencyStop}
 use Rattle.machine.specs.declared.Remaining.{Remaining}
 use Rattle.machine.specs.declared.Phase.{Phase}
 use Rattle.machine.specs.declared.Phase.the-variants.{Waiting, Delay, Run, Braking, Slowing, EmergencySlowing, BackOff}
@@ -32,7 +32,7 @@ run-emergency NoRun p r t = t
 run-emergency IndexedRun p r t = t
 run-emergency FreeRun p r t = t
 run-emergency SearchRun p r t = t
-run-emergency StoppedRun p r t = either-true-left _ _ t
+run-emergency DelayedStopRun p r t = either-true-left _ _ t
 
 braking-emergency :
     (m : Motion) (p : Profile) (r : Remaining) → brakingPhase m ≡ true → isStepsAlong (p .backward) r ≡ true → emergencyRest m p r ≡ true
@@ -41,7 +41,7 @@ braking-emergency NoRun p r b t = clash b
 braking-emergency IndexedRun p r b t = clash b
 braking-emergency FreeRun p r b t = clash b
 braking-emergency SearchRun p r b t = clash b
-braking-emergency StoppedRun p r b t = either-true-right _ _ t
+braking-emergency DelayedStopRun p r b t = either-true-right _ _ t
 
 slowing-emergency : (m : Motion) (p : Profile) (r : Remaining) → slowingPhase m p ≡ true → isNothing r ≡ true → emergencyRest m p r ≡ true
 unfolding slowingPhase emergencyRest
@@ -49,7 +49,7 @@ slowing-emergency NoRun p r b t = clash b
 slowing-emergency IndexedRun p r b t = clash b
 slowing-emergency FreeRun p r b t = t
 slowing-emergency SearchRun p r b t = t
-slowing-emergency StoppedRun p r b t = clash b
+slowing-emergency DelayedStopRun p r b t = clash b
 
 -- 01: "slowing (02, 32, 03)": these have a ramp
 slowing-ramp : (p : Profile) → SoundRun p → (m : Motion) → p .motion ≡ m → slowingPhase m p ≡ true → hasRamp p ≡ true
@@ -58,7 +58,7 @@ slowing-ramp p d NoRun e t = clash t
 slowing-ramp p d IndexedRun e t = clash t
 slowing-ramp p d FreeRun e t = t
 slowing-ramp p d SearchRun e t = d .ramped (either-true-right _ _ (ap backPhase e))
-slowing-ramp p d StoppedRun e t = clash t
+slowing-ramp p d DelayedStopRun e t = clash t
 
 module _ {cells : List Cell} (m : Memory cells) {s : State} (g : Parts cells s) where
   -- ---- free run stop
@@ -80,7 +80,7 @@ module _ {cells : List Cell} (m : Memory cells) {s : State} (g : Parts cells s) 
         mark = refl;
       }) refl)
   stop-of b SearchRun e = g
-  stop-of b StoppedRun e =
+  stop-of b DelayedStopRun e =
       choose-by (Parts cells) (s .running .«at_speed»)
       (λ t. phase-sound g
       (record {
@@ -105,7 +105,7 @@ module _ {cells : List Cell} (m : Memory cells) {s : State} (g : Parts cells s) 
   stop-in BackOff b = g
 
   pub stop-sound : Parts cells (freeRunStop cells s)
-  unfolding freeRunStop
+  unfolding freeRunStop freeRunStopAt
   stop-sound = stop-in (s .running .phase) (phase-busy g)
 
   -- ---- PX
@@ -120,7 +120,7 @@ module _ {cells : List Cell} (m : Memory cells) {s : State} (g : Parts cells s) 
       (λ t. phase-sound g
       (record { cell = b .cell; loops = b .loops; phase = ap (λ (k : Motion). slowingPhase k (runOf cells s)) e; rest = refl; mark = refl }) refl)
       (λ t. g)
-  px-run b px StoppedRun e = g
+  px-run b px DelayedStopRun e = g
 
   px-in :
       (px : Bool) (p : Phase) → (isWaiting p ≡ false → BusyIn cells s p) →
@@ -135,7 +135,7 @@ module _ {cells : List Cell} (m : Memory cells) {s : State} (g : Parts cells s) 
   px-in px BackOff b = choose-by (Parts cells) px (λ t. g) (λ t. goes-on m g (b refl))
 
   pub px-sound : (px : Bool) → Parts cells (pxSeen px cells s)
-  unfolding pxSeen
+  unfolding pxSeen pxSeenAt
   px-sound px = px-in px (s .running .phase) (phase-busy g)
 
   -- ---- emergency stop
@@ -163,5 +163,5 @@ module _ {cells : List Cell} (m : Memory cells) {s : State} (g : Parts cells s) 
 
   -- 01: "a busy program ends"
   pub emergency-sound : Parts cells (emergencyStop cells s)
-  unfolding emergencyStop
+  unfolding emergencyStop emergencyStopAt
   emergency-sound = choose-by (Parts cells) (idle s) (λ t. g) (λ t. emergency-in (s .running .phase) (running-busy g t))

@@ -17,10 +17,11 @@ use Rattle.instruction.specs.Soundness.{cellSound}
 use Rattle.instruction.specs.declared.Cell.{Cell}
 use Rattle.machine.specs.Record.{cellAt, storedAt, nullCell, nothingSuspended, idle}
 use Rattle.machine.specs.Soundness.{isCell, isNothing, suspendedRest, suspendedSound, runningSound}
-use Rattle.machine.specs.Strings.{sameContent, keepsSuspended, stored}
+use Rattle.machine.specs.Acting.{sameContent, keepsSuspended, storedState, named, actedAt, cellsAfter, namedCell, machineAfter}
 use Rattle.machine.specs.declared.Remaining.{Remaining}
 use Rattle.machine.specs.declared.State.{State}
 use Rattle.machine.specs.declared.Machine.{Machine}
+use Rattle.machine.specs.declared.commands.Command.the-variants.{Store}
 use Rattle.machine.proofs.Tests.{by-test, either-second, second, every-set}
 use Rattle.machine.proofs.Cells.{cell-from, cell-to, Memory}
 use Rattle.machine.proofs.Rests.{suspended-same}
@@ -44,7 +45,7 @@ moved-parts other g u r =
     }
 
 module _ {cells : List Cell} (m : Memory cells) (a : CellAddress) (c : Cell) (h : isCell a ≡ true) where
-  stored-memory : cellSound c ≡ true → Memory (storedAt cells a c)
+  pub stored-memory : cellSound c ≡ true → Memory (storedAt cells a c)
   unfolding storedAt
   stored-memory t =
       record {
@@ -53,12 +54,12 @@ module _ {cells : List Cell} (m : Memory cells) (a : CellAddress) (c : Cell) (h 
       }
 
   -- the cell itself, and every other
-  stored-here : (b : CellAddress) → a .0 ≡ b .0 → cellAt (storedAt cells a c) b ≡ c
+  pub stored-here : (b : CellAddress) → a .0 ≡ b .0 → cellAt (storedAt cells a c) b ≡ c
   unfolding cellAt storedAt
   stored-here b e =
       rw (← e) (getD-set-same cells (a .0 - 100) c nullCell (omega (arith, m .count, cell-from a h, cell-to a h)))
 
-  stored-other : (b : CellAddress) → isCell b ≡ true → (a .0 ≡ b .0 → ⊥) → cellAt (storedAt cells a c) b ≡ cellAt cells b
+  pub stored-other : (b : CellAddress) → isCell b ≡ true → (a .0 ≡ b .0 → ⊥) → cellAt (storedAt cells a c) b ≡ cellAt cells b
   unfolding cellAt storedAt
   stored-other b k n =
       getD-set-other cells (a .0 - 100) (b .0 - 100) c nullCell (λ e. n (omega (arith, cell-from a h, cell-from b k)))
@@ -83,8 +84,8 @@ module _ {cells : List Cell} (m : Memory cells) (a : CellAddress) (c : Cell) (h 
 -- 01: "WN of changed content into the interrupted record's cell empties the record; WN of equal content leaves it."
 pub stored-sound :
     (m : Machine) → Whole m → (a : CellAddress) (c : Cell) → isCell a ≡ true → cellSound c ≡ true → idle (m .state) ≡ true →
-    Whole (stored m a c)
-unfolding stored keepsSuspended
+    Whole (machineAfter (Store a c) m)
+unfolding machineAfter namedCell named actedAt cellsAfter storedState keepsSuspended
 stored-sound m w a c h t i =
     record {
       memory = stored-memory (w .memory) a c h t;

@@ -12,6 +12,7 @@ use Rattle.laws.specs.Tests.{choose, both}
 use Rattle.laws.proofs.Tests.{choose-by, choose-true, choose-false, either-true-right}
 use Rattle.fields.specs.Kinds.{valid}
 use Rattle.fields.specs.declared.kinds.Kind.the-variants.{Next}
+use Rattle.units.specs.Limits.{stepLimit, delayLimit, loopLimit}
 use Rattle.units.specs.Remaining.{isZeroOf}
 use Rattle.units.specs.Shift.{Within, shiftOf, isBeyondOf}
 use Rattle.units.specs.declared.CellAddress.{CellAddress}
@@ -26,7 +27,7 @@ use Rattle.instruction.specs.declared.Cell.{Cell}
 use Rattle.instruction.specs.declared.Instruction.{Instruction}
 use Rattle.instruction.specs.declared.Instruction.the-variants.{Null, IndexedRamp, IndexedRampFine, FreeRamp, FreeRampFine, Indexed, IndexedFine, Free, FreeFine, ZeroSearch, DelayedStop, CamSetting, OutputSetting, CounterReset, OpeningLoop, ClosingLoop, ConditionalJump, TimeDelay, Recovery, CurrentSetting}
 use Rattle.instruction.specs.declared.run.Motion.{Motion}
-use Rattle.instruction.specs.declared.run.Motion.the-variants.{NoRun, IndexedRun, FreeRun, SearchRun, StoppedRun}
+use Rattle.instruction.specs.declared.run.Motion.the-variants.{NoRun, IndexedRun, FreeRun, SearchRun, DelayedStopRun}
 use Rattle.machine.specs.Record.{origin, withLoopCount, withOutput}
 use Rattle.machine.specs.Soundness.{isCell, positionSound, loopCountSound, isNothing, isSteps, isIndexed, isDelay, runPhase, backPhase, hasPhase, busyRest, markSound}
 use Rattle.machine.specs.Starting.{advanced, entered}
@@ -44,7 +45,7 @@ use Rattle.machine.proofs.Going.{stopped-sound, counted-sound, advanced
 
 -- 01: "Indexed: shift = n×m; in absolute mode n×m less position, beyond 8,388,607×m either way error 50"
 shift-within :
-    (n : Steps) (x : Bool) (p : Position) (absolute : Bool) → natAbs (n .0) ≤ 8388607 →
+    (n : Steps) (x : Bool) (p : Position) (absolute : Bool) → natAbs (n .0) ≤ stepLimit →
     both absolute (isBeyondOf (shiftOf n x absolute p) x) ≡ false → Within (shiftOf n x absolute p)
 unfolding both shiftOf choose
 shift-within n x p true h t = within-not-beyond _ x t
@@ -95,8 +96,8 @@ module _ {cells : List Cell} {s : State} (g : Parts cells s)
   taken-motion i next e v d SearchRun m =
       choose-by (Parts cells) _ (λ t. entered-sound i e (ap backPhase m) refl refl)
       (λ t. run-begun i e (ap runPhase m) (run-rest i SearchRun m refl))
-  taken-motion i next e v d StoppedRun m =
-      choose-by (Parts cells) _ (λ t. advanced-sound g next l v) (λ t. run-begun i e (ap runPhase m) (run-rest i StoppedRun m refl))
+  taken-motion i next e v d DelayedStopRun m =
+      choose-by (Parts cells) _ (λ t. advanced-sound g next l v) (λ t. run-begun i e (ap runPhase m) (run-rest i DelayedStopRun m refl))
 
   -- 01: "Runs: x4 with RS not D2, D3, B2, B3 is error 51"
   taken-run :
@@ -114,7 +115,7 @@ module _ {cells : List Cell} {s : State} (g : Parts cells s)
   taken-loop jump next j v =
       choose-by (Parts cells) _ (λ t. failed-sound g c 52 refl refl refl)
       (λ t. counted-sound g (withLoopCount (s .running) (s .running .loops - 1)) _
-      (le-leb (s .running .loops - 1) 65535 (omega (arith, leb-true (s .running .loops) 65535 l)))
+      (le-leb (s .running .loops - 1) loopLimit (omega (arith, leb-true (s .running .loops) loopLimit l)))
       (choose-by (λ (a : CellAddress). valid Next (a .0) ≡ true) _ (λ u. v) (λ u. j)))
 
   -- 01: "63: EEE if II equals V, else DDD"
@@ -125,7 +126,7 @@ module _ {cells : List Cell} {s : State} (g : Parts cells s)
 
   -- 01: "65: a delay of nnn later milliseconds; 0 passes on"
   taken-delay :
-      (n : Milliseconds) (next : CellAddress) → present cells s .instruction ≡ TimeDelay n → n .0 ≤ 65535 →
+      (n : Milliseconds) (next : CellAddress) → present cells s .instruction ≡ TimeDelay n → n .0 ≤ delayLimit →
       valid Next (next .0) ≡ true → Parts cells (takeTimeDelay s n next)
   unfolding takeTimeDelay hasPhase isDelay codeOf busyRest markSound
   taken-delay n next e h v =

@@ -16,15 +16,16 @@ use Rattle.fields.specs.Rows.{printFields, allGood, allValid}
 use Rattle.fields.proofs.RoundTrip.{print-injective}
 use Rattle.fields.specs.declared.kinds.Kind.{Kind}
 use Rattle.machine.specs.Answers.{answerOf}
+use Rattle.machine.specs.declared.commands.StringAddress.{StringAddress}
 use Rattle.machine.proofs.Addressing.{string, digits-front}
 
 -- the fields of an answer, whatever its address
-pub answer-fields : (aa bb : ℕ) (code : String) (v w : List ℕ) → answerOf aa code v ≡ answerOf bb code w → v ≡ w
+pub answer-fields : (aa bb : StringAddress) (code : String) (v w : List ℕ) → answerOf aa code v ≡ answerOf bb code w → v ≡ w
 unfolding answerOf
 answer-fields aa bb code v w e =
     let x = bytes code ++ string v in
     let y = bytes code ++ string w in
-    let p : x ≡ y = ap (drop 2) (sym (digits-front aa x) ∙ e ∙ digits-front bb y) in
+    let p : x ≡ y = ap (drop 2) (sym (digits-front (aa .0) x) ∙ e ∙ digits-front (bb .0) y) in
     append-cancel-right v w (13 ∷ []) (append-cancel-left (bytes code) _ _ p)
 
 -- fields after the same first field

@@ -15,10 +15,11 @@ use Rattle.fields.specs.declared.kinds.Kind.the-variants.{Fixed, Count, Signed,
 use Rattle.fields.specs.declared.names.Names.the-variants.{Outputs, Inputs, Presets}
 use Rattle.units.specs.Bits.{bitsOf}
 use Rattle.units.specs.declared.CellAddress.{CellAddress}
-use Rattle.instruction.specs.Formats.{cell, bit}
+use Rattle.format.specs.Formats.{cell, bit}
 use Rattle.instruction.specs.Numbers.{bitOf}
 use Rattle.instruction.specs.Texts.{cellText}
-use Rattle.machine.specs.Record.{cellAt, inputAt, outputAt}
+use Rattle.instruction.specs.declared.Cell.{Cell}
+use Rattle.machine.specs.Record.{inputAt, outputAt}
 use Rattle.machine.specs.Commands.{anySigned, presetKind}
 use Rattle.machine.specs.declared.Resolution.{Resolution}
 use Rattle.machine.specs.declared.Resolution.the-variants.{D0, D1, D2, D3, B0, B1, B2, B3}
@@ -28,7 +29,9 @@ use Rattle.machine.specs.declared.Presets.{Presets as PresetValues}
 use Rattle.machine.specs.declared.Cam.{Cam}
 use Rattle.machine.specs.declared.Suspended.{Suspended}
 use Rattle.machine.specs.declared.State.{State}
-use Rattle.machine.specs.declared.Machine.{Machine}
+use Rattle.machine.specs.declared.commands.StringAddress.{StringAddress}
+use Rattle.machine.specs.declared.commands.Command.{Command}
+use Rattle.machine.specs.declared.commands.Command.the-variants.{Store, SetPreset, Start, EmergencyStop, FreeRunStop, SetPosition, SetOutput, SetCam, AskPosition, AskPreset, AskInput, AskOutput, AskCell, AskCam, AskFault, AskSuspended, Wrong}
 
 -- the place of a value of RS in its list
 unfoldable pub resolutionPlace : Resolution → ℕ
@@ -69,8 +72,8 @@ unfoldable pub outputText : ℕ → State → List ℕ
 outputText k s = printFields (Name Outputs ∷ bit ∷ []) (k ∷ outputValue k s ∷ [])
 
 -- 01: "QM,BBB as WN stored it"
-unfoldable pub memoryText : CellAddress → Machine → List ℕ
-memoryText a m = printFields (cell ∷ []) (a .0 ∷ []) ++ cellText (cellAt (m .cells) a)
+unfoldable pub memoryText : CellAddress → Cell → List ℕ
+memoryText a c = printFields (cell ∷ []) (a .0 ∷ []) ++ cellText c
 
 -- 01: "QC `1,±nnn` or `0`"
 unfoldable pub camText : Cam → List ℕ
@@ -94,13 +97,33 @@ suspendedText r =
     (printFields (cell ∷ anySigned ∷ Count 0 65535 ∷ []) (r .cell .0 ∷ remainingBits (r .remaining) ∷ r .loops ∷ []))
 
 -- an answer: the address in the string, the code, the fields, and byte 13
-unfoldable pub answerOf : ℕ → String → List ℕ → List ℕ
-answerOf aa code fields = digits 2 aa ++ (bytes code ++ (fields ++ (13 ∷ [])))
+unfoldable pub answerOf : StringAddress → String → List ℕ → List ℕ
+answerOf aa code fields = digits 2 (aa .0) ++ (bytes code ++ (fields ++ (13 ∷ [])))
 
 -- 01: "Commands, answered `AAY`"
-unfoldable pub accepted : ℕ → List ℕ
+unfoldable pub accepted : StringAddress → List ℕ
 accepted aa = answerOf aa "Y" []
 
 -- 01: "`AAN`"
-unfoldable pub rejected : ℕ → List ℕ
+unfoldable pub rejected : StringAddress → List ℕ
 rejected aa = answerOf aa "N" []
+
+-- 01: "Commands, answered `AAY`"; "Requests repeat themselves with the value after"; given the cell that the command names
+unfoldable pub answerAt : Command → StringAddress → State → Cell → List ℕ
+answerAt (Store a d) aa s c = accepted aa
+answerAt (SetPreset v) aa s c = accepted aa
+answerAt (Start a) aa s c = accepted aa
+answerAt EmergencyStop aa s c = accepted aa
+answerAt FreeRunStop aa s c = accepted aa
+answerAt (SetPosition b) aa s c = accepted aa
+answerAt (SetOutput o v) aa s c = accepted aa
+answerAt (SetCam v b) aa s c = accepted aa
+answerAt AskPosition aa s c = answerOf aa "QA" (positionText s)
+answerAt (AskPreset k) aa s c = answerOf aa "QS" (presetText k s)
+answerAt (AskInput k) aa s c = answerOf aa "QI" (inputText k s)
+answerAt (AskOutput k) aa s c = answerOf aa "QO" (outputText k s)
+answerAt (AskCell a) aa s c = answerOf aa "QM" (memoryText a c)
+answerAt AskCam aa s c = answerOf aa "QC" (camText (s .cam))
+answerAt AskFault aa s c = answerOf aa "QE" (faultText s)
+answerAt AskSuspended aa s c = answerOf aa "QR" (suspendedText (s .suspended))
+answerAt Wrong aa s c = rejected aa

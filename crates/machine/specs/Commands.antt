@@ -14,7 +14,7 @@ use Rattle.fields.specs.declared.kinds.Kind.{Kind}
 use Rattle.fields.specs.declared.kinds.Kind.the-variants.{Fixed, Count, Signed, Optional, Name}
 use Rattle.fields.specs.declared.names.Names.the-variants.{Settable, Outputs, Inputs, Presets, Resolutions}
 use Rattle.fields.specs.declared.rows.Parsed.{Parsed}
-use Rattle.instruction.specs.Formats.{cell, bit}
+use Rattle.format.specs.Formats.{cell, bit}
 use Rattle.instruction.specs.Soundness.{cellSound}
 use Rattle.instruction.specs.Numbers.{byteOf, isOne}
 use Rattle.instruction.specs.Texts.{sentCell}
@@ -23,6 +23,10 @@ use Rattle.instruction.specs.declared.text.Sent.the-variants.{Held}
 use Rattle.instruction.specs.declared.text.Sent.the-variants as sent
 use Rattle.units.specs.declared.CellAddress.{CellAddress}
 use Rattle.machine.specs.Soundness.{isCell}
+use Rattle.machine.specs.declared.Resolution.{Resolution}
+use Rattle.machine.specs.declared.Resolution.the-variants.{D0, D1, D2, D3, B0, B1, B2, B3}
+use Rattle.machine.specs.declared.commands.PresetValue.{PresetValue}
+use Rattle.machine.specs.declared.commands.PresetValue.the-variants as preset
 use Rattle.machine.specs.declared.commands.Command.{Command}
 use Rattle.machine.specs.declared.commands.Command.the-variants.{Store, SetPreset, Start, EmergencyStop, FreeRunStop, SetPosition, SetOutput, SetCam, AskPosition, AskPreset, AskInput, AskOutput, AskCell, AskCam, AskFault, AskSuspended, Wrong}
 
@@ -34,12 +38,12 @@ anySigned = Signed (2 ^ 31) (2 ^ 31 - 1)
 abbrev pub fieldsAt : ℕ
 fieldsAt = 4
 
--- bytes 3 and 4
+-- bytes 3 and 4, as one number
 unfoldable pub codeIn : List ℕ → ℕ
 codeIn s = pairOf (drop 2 s)
 
-unfoldable pub hasCode : String → List ℕ → Bool
-hasCode c s = eqb (codeIn s) (pairOf (bytes c))
+unfoldable pub isCode : String → ℕ → Bool
+isCode letters code = eqb code (pairOf (bytes letters))
 
 -- where all fields are right, what they say
 unfoldable pub onFields : Parsed → (List ℕ → Command) → Command
@@ -66,11 +70,30 @@ presetKind k =
     (choose (eqb k 1) (Count 0 3)
     (choose (eqb k 2) (Name Resolutions) (Count 0 1)))
 
+unfoldable pub resolutionAt : ℕ → Resolution
+resolutionAt k =
+    choose (eqb k 0) D0
+    (choose (eqb k 1) D1
+    (choose (eqb k 2) D2
+    (choose (eqb k 3) D3
+    (choose (eqb k 4) B0
+    (choose (eqb k 5) B1
+    (choose (eqb k 6) B2 B3))))))
+
+-- the preset at a place of AD, IN, RS, ES, CM, with a value of its kind
+unfoldable pub presetWith : ℕ → ℕ → PresetValue
+presetWith k v =
+    choose (eqb k 0) (preset.Address (record { 0 = byteOf v }))
+    (choose (eqb k 1) (preset.Current (byteOf v))
+    (choose (eqb k 2) (preset.Resolution (resolutionAt v))
+    (choose (eqb k 3) (preset.Interlock (isOne v)) (preset.Absolute (isOne v)))))
+
+-- 01: "`AAWS,VV,value`"
 unfoldable pub presetIn : List ℕ → Parsed → Command
 presetIn s p =
     onFields p (λ ks.
     onFields (parseAll (presetKind (getD ks 0 0) ∷ []) s (p .at)) (λ vs.
-    SetPreset (byteOf (getD ks 0 0)) (byteOf (getD vs 0 0))))
+    SetPreset (presetWith (getD ks 0 0) (getD vs 0 0))))
 
 -- 01: "`AASC,V,±nnn`, where `AASC,0` may end there"; an unset cam has position 0
 unfoldable pub camWith : Bool → ℕ → Command
@@ -81,30 +104,33 @@ camIn s =
     choose (parseAll (Fixed 1 0 0 ∷ []) s fieldsAt .ok) (SetCam false 0)
     (onAll (bit ∷ anySigned ∷ []) s (λ vs. camWith (isOne (getD vs 0 0)) (getD vs 1 0)))
 
--- 01: "Commands .." and "Requests .."
+-- 01: "Commands .." and "Requests ..", by the code
+unfoldable pub commandBy : ℕ → List ℕ → Command
+commandBy code s =
+    choose (isCode "WN" code) (storeIn s (parseFields (cell ∷ []) s fieldsAt))
+    (choose (isCode "WS" code) (presetIn s (parseFields (Name Presets ∷ []) s fieldsAt))
+    (choose (isCode "PS" code) (onAll (cell ∷ []) s (λ vs. Start (addressOf vs)))
+    (choose (isCode "EE" code) (onAll [] s (λ vs. EmergencyStop))
+    (choose (isCode "ES" code) (onAll [] s (λ vs. FreeRunStop))
+    (choose (isCode "SA" code) (onAll (Optional (2 ^ 31) (2 ^ 31 - 1) ∷ []) s (λ vs. SetPosition (getD vs 0 0)))
+    (choose (isCode "SO" code) (onAll (Name Settable ∷ bit ∷ []) s (λ vs. SetOutput (byteOf (getD vs 0 0)) (isOne (getD vs 1 0))))
+    (choose (isCode "SC" code) (camIn s)
+    (choose (isCode "QA" code) (onAll [] s (λ vs. AskPosition))
+    (choose (isCode "QS" code) (onAll (Name Presets ∷ []) s (λ vs. AskPreset (byteOf (getD vs 0 0))))
+    (choose (isCode "QI" code) (onAll (Name Inputs ∷ []) s (λ vs. AskInput (byteOf (getD vs 0 0))))
+    (choose (isCode "QO" code) (onAll (Name Outputs ∷ []) s (λ vs. AskOutput (byteOf (getD vs 0 0))))
+    (choose (isCode "QM" code) (onAll (cell ∷ []) s (λ vs. AskCell (addressOf vs)))
+    (choose (isCode "QC" code) (onAll [] s (λ vs. AskCam))
+    (choose (isCode "QE" code) (onAll [] s (λ vs. AskFault))
+    (choose (isCode "QR" code) (onAll [] s (λ vs. AskSuspended)) Wrong)))))))))))))))
+
 unfoldable pub commandOf : List ℕ → Command
-commandOf s =
-    choose (hasCode "WN" s) (storeIn s (parseFields (cell ∷ []) s fieldsAt))
-    (choose (hasCode "WS" s) (presetIn s (parseFields (Name Presets ∷ []) s fieldsAt))
-    (choose (hasCode "PS" s) (onAll (cell ∷ []) s (λ vs. Start (addressOf vs)))
-    (choose (hasCode "EE" s) (onAll [] s (λ vs. EmergencyStop))
-    (choose (hasCode "ES" s) (onAll [] s (λ vs. FreeRunStop))
-    (choose (hasCode "SA" s) (onAll (Optional (2 ^ 31) (2 ^ 31 - 1) ∷ []) s (λ vs. SetPosition (getD vs 0 0)))
-    (choose (hasCode "SO" s) (onAll (Name Settable ∷ bit ∷ []) s (λ vs. SetOutput (byteOf (getD vs 0 0)) (isOne (getD vs 1 0))))
-    (choose (hasCode "SC" s) (camIn s)
-    (choose (hasCode "QA" s) (onAll [] s (λ vs. AskPosition))
-    (choose (hasCode "QS" s) (onAll (Name Presets ∷ []) s (λ vs. AskPreset (byteOf (getD vs 0 0))))
-    (choose (hasCode "QI" s) (onAll (Name Inputs ∷ []) s (λ vs. AskInput (byteOf (getD vs 0 0))))
-    (choose (hasCode "QO" s) (onAll (Name Outputs ∷ []) s (λ vs. AskOutput (byteOf (getD vs 0 0))))
-    (choose (hasCode "QM" s) (onAll (cell ∷ []) s (λ vs. AskCell (addressOf vs)))
-    (choose (hasCode "QC" s) (onAll [] s (λ vs. AskCam))
-    (choose (hasCode "QE" s) (onAll [] s (λ vs. AskFault))
-    (choose (hasCode "QR" s) (onAll [] s (λ vs. AskSuspended)) Wrong)))))))))))))))
+commandOf s = commandBy (codeIn s) s
 
 -- the names and cells of a command have a place in their lists, and a stored cell is sound: what a string says is never anything else
 unfoldable pub placed : Command → Bool
 placed (Store a c) = both (isCell a) (cellSound c)
-placed (SetPreset k v) = ltb k 5
+placed (SetPreset v) = true
 placed (Start a) = isCell a
 placed EmergencyStop = true
 placed FreeRunStop = true

@@ -11,14 +11,18 @@ use Rattle.machine.specs.Calls.{Call, proper, after, seen}
 use Rattle.machine.specs.Reading.{reading, sentBack}
 use Rattle.machine.specs.declared.Machine.{Machine}
 
+-- how a drive begins: "made fresh", with an address of 0 to 47
+pub data Begun : Machine → Type 0 where
+  made : (address : ℕ) → address ≤ 47 → Begun (fresh (record { 0 = address }))
+
 -- "Two drives are each made fresh, and each is put through a list of its own .. refused calls included. Whatever addresses and whatever lists these
 -- are, if both drives are idle afterwards"
 pub record Reached (m : Machine) : Type 0 where
-  pub address : ℕ
-  pub small : address ≤ 47
+  pub start : Machine
+  pub begun : Begun start
   pub calls : List Call
   pub bytes : every proper calls ≡ true
-  pub made : after calls (fresh (record { 0 = address })) ≡ m
+  pub made : after calls start ≡ m
   pub rests : idle (m .state) ≡ true
 
 -- "they answer, step and set outputs alike for every further list of these calls given to both"

@@ -10,7 +10,8 @@ use Rattle.instruction.specs.Numbers.{bitOf}
 use Rattle.instruction.specs.declared.Cell.{Cell}
 use Rattle.machine.specs.Record.{withInputs, inputAt, inPX, inS0, inST, inES, inEE, idle}
 use Rattle.machine.specs.Starting.{started}
-use Rattle.machine.specs.Stopping.{freeRunStop, pxSeen, emergencyStop}
+use Rattle.machine.specs.Milliseconds.{present}
+use Rattle.machine.specs.Stopping.{freeRunStopAt, pxSeenAt, emergencyStopAt}
 use Rattle.machine.specs.declared.State.{State}
 
 -- n bits of a number, the lowest first
@@ -42,15 +43,27 @@ starts before s =
 unfoldable pub judgedST : State → State → State
 judgedST before s = choose (starts before s) (started s (selectedCell s)) s
 
-unfoldable pub judgedEE : List Cell → State → State
-judgedEE cells s = choose (inputAt s inEE) (emergencyStop cells s) s
+unfoldable pub judgedEE : State → Cell → State
+judgedEE s c = choose (inputAt s inEE) (emergencyStopAt s c) s
 
-unfoldable pub judgedES : List Cell → State → State
-judgedES cells s = choose (inputAt s inES) (freeRunStop cells s) s
+unfoldable pub judgedES : State → Cell → State
+judgedES s c = choose (inputAt s inES) (freeRunStopAt s c) s
 
-unfoldable pub judgedPX : List Cell → State → State
-judgedPX cells s = pxSeen (inputAt s inPX) cells s
+unfoldable pub judgedPX : State → Cell → State
+judgedPX s c = pxSeenAt (inputAt s inPX) s c
+
+-- what one of these does to a drive, given how its present cell is found
+abbrev judgedBy : (State → Cell) → (State → Cell → State) → State → State
+judgedBy cellOf judged s = judged s (cellOf s)
+
+-- the whole word, in that order, each at the cell that is then present
+unfoldable pub judgedWord : (State → Cell) → ℕ → State → State
+judgedWord cellOf w s =
+    judgedBy cellOf judgedPX (judgedBy cellOf judgedES (judgedBy cellOf judgedEE (judgedST s (withInputs s (inputsOf w)))))
+
+-- a word, given only the cell that is present before it: one that becomes present within the word waits, and no later part looks at it
+unfoldable pub inputWordAt : ℕ → State → Cell → State
+inputWordAt w s c = judgedWord (λ x. c) w s
 
 unfoldable pub inputWord : ℕ → List Cell → State → State
-inputWord w cells s =
-    judgedPX cells (judgedES cells (judgedEE cells (judgedST s (withInputs s (inputsOf w)))))
+inputWord w cells s = judgedWord (present cells) w s

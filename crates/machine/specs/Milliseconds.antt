@@ -26,15 +26,23 @@ countDown (Timed n) s next = choose (leb (n .0) 1) (advanced s next) (inPhase s 
 countDown Nothing s next = s
 countDown (Counted n) s next = s
 
-unfoldable pub millisecondIn : Phase → List Cell → State → State
-millisecondIn Waiting cells s = takeCell cells s (present cells s)
-millisecondIn Delay cells s = countDown (s .running .remaining) s (present cells s .next)
-millisecondIn Run cells s = s
-millisecondIn Braking cells s = s
-millisecondIn Slowing cells s = s
-millisecondIn EmergencySlowing cells s = s
-millisecondIn BackOff cells s = s
+-- the cell of the interrupted record
+unfoldable pub held : List Cell → State → Cell
+held cells s = cellAt cells (s .suspended .cell)
+
+-- what a millisecond does in a phase, given the present cell and the interrupted record's cell
+unfoldable pub millisecondIn : Phase → State → Cell → Cell → State
+millisecondIn Waiting s c h = takeCell s c h
+millisecondIn Delay s c h = countDown (s .running .remaining) s (c .next)
+millisecondIn Run s c h = s
+millisecondIn Braking s c h = s
+millisecondIn Slowing s c h = s
+millisecondIn EmergencySlowing s c h = s
+millisecondIn BackOff s c h = s
 
 -- 01: "Each millisecond outside a run or delay takes the present cell"; an idle drive has none
+unfoldable pub millisecondAt : State → Cell → Cell → State
+millisecondAt s c h = choose (idle s) s (millisecondIn (s .running .phase) s c h)
+
 unfoldable pub millisecond : List Cell → State → State
-millisecond cells s = choose (idle s) s (millisecondIn (s .running .phase) cells s)
+millisecond cells s = millisecondAt s (present cells s) (held cells s)

@@ -22,7 +22,7 @@ use Rattle.machine.specs.declared.answers.BoardOrder.{BoardOrder}
 use Rattle.machine.specs.declared.answers.BoardOrder.the-variants as order
 
 -- 01: "always with IN, CU and FC"
-unfoldable pub linesOf : State → Lines
+abbrev pub linesOf : State → Lines
 linesOf s = record { current = s .presets .current; powered = outputAt s outCU; fc = outputAt s outFC }
 
 -- 01: "signed rest (0 where none is counted)"
@@ -51,5 +51,9 @@ orderIn Slowing s p = order.Slow (linesOf s)
 orderIn EmergencySlowing s p = order.Slow (linesOf s)
 orderIn BackOff s p = order.Run (linesOf s) (not (p .backward)) (p .slow) 0 still
 
+-- the order, given the present cell
+unfoldable pub orderAt : State → Cell → BoardOrder
+orderAt s c = orderIn (s .running .phase) s (profileOf (c .instruction))
+
 unfoldable pub orderOf : List Cell → State → BoardOrder
-orderOf cells s = orderIn (s .running .phase) s (profileOf (present cells s .instruction))
+orderOf cells s = orderAt s (present cells s)

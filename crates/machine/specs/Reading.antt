@@ -9,7 +9,7 @@ use Rattle.decimal.specs.Printing.{digits}
 use Rattle.fields.specs.Rows.{printFields}
 use Rattle.fields.specs.declared.kinds.Kind.the-variants.{Name}
 use Rattle.fields.specs.declared.names.Names.the-variants.{Outputs, Inputs, Presets}
-use Rattle.instruction.specs.Formats.{cell}
+use Rattle.format.specs.Formats.{cell}
 use Rattle.machine.specs.Calls.{Call, Seen, look, seen}
 use Rattle.machine.specs.Calls.Call.{SendString}
 use Rattle.machine.specs.declared.Machine.{Machine}

@@ -60,6 +60,10 @@ atRest = record { cell = none; phase = Waiting; remaining = Nothing; loops = 0; 
 abbrev pub freshPresets : DriveAddress → Presets
 freshPresets a = record { address = a; current = 1; resolution = D2; interlock = false; absolute = false }
 
+-- 01: "CM 0 (relative) or 1 (absolute)"
+abbrev pub isAbsolute : Presets → Bool
+isAbsolute p = p .absolute
+
 -- 01: "outputs .. all first 0; inputs .. first 0"
 abbrev pub freshState : DriveAddress → State
 freshState a =
@@ -77,110 +81,35 @@ freshState a =
 unfoldable pub fresh : DriveAddress → Machine
 fresh a = record { state = freshState a; cells = replicate 131 nullCell }
 
+-- a state by its parts, in the order of the record
+abbrev pub stateOf : Presets → Position → List Bool → List Bool → Cam → Fault → Suspended → Running → State
+stateOf p x i o c f h r =
+    record { presets = p; position = x; inputs = i; outputs = o; cam = c; fault = f; suspended = h; running = r }
+
 -- one part of the state replaced
 abbrev pub withPresets : State → Presets → State
-withPresets s x =
-    record {
-      presets = x;
-      position = s .position;
-      inputs = s .inputs;
-      outputs = s .outputs;
-      cam = s .cam;
-      fault = s .fault;
-      suspended = s .suspended;
-      running = s .running;
-    }
+withPresets s y = stateOf y (s .position) (s .inputs) (s .outputs) (s .cam) (s .fault) (s .suspended) (s .running)
 
 abbrev pub withPosition : State → Position → State
-withPosition s x =
-    record {
-      presets = s .presets;
-      position = x;
-      inputs = s .inputs;
-      outputs = s .outputs;
-      cam = s .cam;
-      fault = s .fault;
-      suspended = s .suspended;
-      running = s .running;
-    }
+withPosition s y = stateOf (s .presets) y (s .inputs) (s .outputs) (s .cam) (s .fault) (s .suspended) (s .running)
 
 abbrev pub withInputs : State → List Bool → State
-withInputs s x =
-    record {
-      presets = s .presets;
-      position = s .position;
-      inputs = x;
-      outputs = s .outputs;
-      cam = s .cam;
-      fault = s .fault;
-      suspended = s .suspended;
-      running = s .running;
-    }
+withInputs s y = stateOf (s .presets) (s .position) y (s .outputs) (s .cam) (s .fault) (s .suspended) (s .running)
 
 abbrev pub withOutputs : State → List Bool → State
-withOutputs s x =
-    record {
-      presets = s .presets;
-      position = s .position;
-      inputs = s .inputs;
-      outputs = x;
-      cam = s .cam;
-      fault = s .fault;
-      suspended = s .suspended;
-      running = s .running;
-    }
+withOutputs s y = stateOf (s .presets) (s .position) (s .inputs) y (s .cam) (s .fault) (s .suspended) (s .running)
 
 abbrev pub withCam : State → Cam → State
-withCam s x =
-    record {
-      presets = s .presets;
-      position = s .position;
-      inputs = s .inputs;
-      outputs = s .outputs;
-      cam = x;
-      fault = s .fault;
-      suspended = s .suspended;
-      running = s .running;
-    }
+withCam s y = stateOf (s .presets) (s .position) (s .inputs) (s .outputs) y (s .fault) (s .suspended) (s .running)
 
 abbrev pub withFault : State → Fault → State
-withFault s x =
-    record {
-      presets = s .presets;
-      position = s .position;
-      inputs = s .inputs;
-      outputs = s .outputs;
-      cam = s .cam;
-      fault = x;
-      suspended = s .suspended;
-      running = s .running;
-    }
+withFault s y = stateOf (s .presets) (s .position) (s .inputs) (s .outputs) (s .cam) y (s .suspended) (s .running)
 
 abbrev pub withSuspended : State → Suspended → State
-withSuspended s x =
-    record {
-      presets = s .presets;
-      position = s .position;
-      inputs = s .inputs;
-      outputs = s .outputs;
-      cam = s .cam;
-      fault = s .fault;
-      suspended = x;
-      running = s .running;
-    }
+withSuspended s y = stateOf (s .presets) (s .position) (s .inputs) (s .outputs) (s .cam) (s .fault) y (s .running)
 
 abbrev pub withRunning : State → Running → State
-withRunning s x =
-    record {
-      presets = s .presets;
-      position = s .position;
-      inputs = s .inputs;
-      outputs = s .outputs;
-      cam = s .cam;
-      fault = s .fault;
-      suspended = s .suspended;
-      running = x;
-    }
+withRunning s y = stateOf (s .presets) (s .position) (s .inputs) (s .outputs) (s .cam) (s .fault) (s .suspended) y
 
 abbrev pub withState : Machine → State → Machine
 withState m s = record { state = s; cells = m .cells }
@@ -232,7 +161,7 @@ unfoldable pub idle : State → Bool
 idle s = eqb (s .running .cell .0) 0
 
 -- 01: "The last five are a run under way"
-unfoldable pub underWay : Phase → Bool
+abbrev pub underWay : Phase → Bool
 underWay Waiting = false
 underWay Delay = false
 underWay Run = true

@@ -9,7 +9,7 @@ use Rattle.units.specs.declared.CellAddress.{CellAddress}
 use Rattle.instruction.specs.Runs.{profileOf}
 use Rattle.instruction.specs.declared.Cell.{Cell}
 use Rattle.instruction.specs.declared.run.Motion.{Motion}
-use Rattle.instruction.specs.declared.run.Motion.the-variants.{NoRun, IndexedRun, FreeRun, SearchRun, StoppedRun}
+use Rattle.instruction.specs.declared.run.Motion.the-variants.{NoRun, IndexedRun, FreeRun, SearchRun, DelayedStopRun}
 use Rattle.instruction.specs.declared.run.Profile.{Profile}
 use Rattle.machine.specs.Record.{withRunning, inputAt, inPX}
 use Rattle.machine.specs.Starting.{advanced, entered}
@@ -21,7 +21,7 @@ use Rattle.machine.specs.declared.Phase.the-variants.{Waiting, Delay, Ru
 use Rattle.machine.specs.declared.Running.{Running}
 use Rattle.machine.specs.declared.State.{State}
 
-unfoldable pub runsOrBrakes : Phase → Bool
+abbrev pub runsOrBrakes : Phase → Bool
 runsOrBrakes Run = true
 runsOrBrakes Braking = true
 runsOrBrakes Waiting = false
@@ -34,11 +34,15 @@ runsOrBrakes BackOff = false
 unfoldable pub takesAtSpeedIn : Phase → Profile → Bool
 takesAtSpeedIn phase p = choose (runsOrBrakes phase) (not (eqb (p .ramp) 0)) false
 
+-- the same of a drive, given its present cell
+unfoldable pub takesAtSpeedAt : State → Cell → Bool
+takesAtSpeedAt s c = takesAtSpeedIn (s .running .phase) (profileOf (c .instruction))
+
 unfoldable pub takesAtSpeed : List Cell → State → Bool
-takesAtSpeed cells s = takesAtSpeedIn (s .running .phase) (profileOf (present cells s .instruction))
+takesAtSpeed cells s = takesAtSpeedAt s (present cells s)
 
 -- 01: "At-speed sets the mark"
-unfoldable pub atSpeed : State → State
+abbrev pub atSpeed : State → State
 atSpeed s =
     withRunning s
     (record {
@@ -49,7 +53,7 @@ atSpeed s =
       «at_speed» = true;
     })
 
-unfoldable pub slows : Phase → Bool
+abbrev pub slows : Phase → Bool
 slows Slowing = true
 slows EmergencySlowing = true
 slows Waiting = false
@@ -59,7 +63,7 @@ slows Braking = false
 slows BackOff = false
 
 -- 01: "halted outside both slowings"
-unfoldable pub takesHalted : State → Bool
+abbrev pub takesHalted : State → Bool
 takesHalted s = slows (s .running .phase)
 
 -- 01: "02, 32 slow until halted, then pass on"; 03 then goes back "until PX is off", which is "looked at when a phase begins"
@@ -68,11 +72,11 @@ haltedSlowing SearchRun s next = choose (inputAt s inPX) (entered s BackOff Noth
 haltedSlowing NoRun s next = advanced s next
 haltedSlowing IndexedRun s next = advanced s next
 haltedSlowing FreeRun s next = advanced s next
-haltedSlowing StoppedRun s next = advanced s next
+haltedSlowing DelayedStopRun s next = advanced s next
 
 -- 01: "the record is cell, rest .., loop count; after a 05 under way it is empty"
 unfoldable pub haltedEmergency : Motion → State → State
-haltedEmergency StoppedRun s = abandoned s
+haltedEmergency DelayedStopRun s = abandoned s
 haltedEmergency NoRun s = interrupted s
 haltedEmergency IndexedRun s = interrupted s
 haltedEmergency FreeRun s = interrupted s
@@ -87,6 +91,9 @@ haltedIn Run m s next = s
 haltedIn Braking m s next = s
 haltedIn BackOff m s next = s
 
+-- halted, given the present cell
+unfoldable pub haltedAt : State → Cell → State
+haltedAt s c = haltedIn (s .running .phase) (profileOf (c .instruction) .motion) s (c .next)
+
 unfoldable pub halted : List Cell → State → State
-halted cells s =
-    haltedIn (s .running .phase) (profileOf (present cells s .instruction) .motion) s (present cells s .next)
+halted cells s = haltedAt s (present cells s)

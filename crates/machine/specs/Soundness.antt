@@ -7,6 +7,7 @@ use lib.Dec.{eqb, leb, ltb}
 use lib.IntN.{natAbs}
 use Rattle.laws.specs.Tests.{choose, both, either, same}
 use Rattle.laws.specs.Tables.{every}
+use Rattle.units.specs.Limits.{loopLimit, restLimit}
 use Rattle.units.specs.Remaining.{isZeroOf, isNegativeOf}
 use Rattle.units.specs.declared.CellAddress.{CellAddress}
 use Rattle.units.specs.declared.Steps.{Steps}
@@ -18,7 +19,7 @@ use Rattle.instruction.specs.Soundness.{cellSound}
 use Rattle.instruction.specs.declared.Cell.{Cell}
 use Rattle.instruction.specs.declared.Instruction.{Instruction}
 use Rattle.instruction.specs.declared.run.Motion.{Motion}
-use Rattle.instruction.specs.declared.run.Motion.the-variants.{NoRun, IndexedRun, FreeRun, SearchRun, StoppedRun}
+use Rattle.instruction.specs.declared.run.Motion.the-variants.{NoRun, IndexedRun, FreeRun, SearchRun, DelayedStopRun}
 use Rattle.instruction.specs.declared.run.Profile.{Profile}
 use Rattle.machine.specs.Record.{cellAt}
 use Rattle.machine.specs.declared.Presets.{Presets}
@@ -56,14 +57,14 @@ faultSound f =
 
 -- 01: "a loop count is at most 65,535"
 unfoldable pub loopCountSound : ℕ → Bool
-loopCountSound n = leb n 65535
+loopCountSound n = leb n loopLimit
 
 -- 01: "a rest is within 33,554,428 either way"; a rest of steps or milliseconds is never 0
 unfoldable pub stepsRest : Steps → Bool
-stepsRest n = both (leb (natAbs (n .0)) 33554428) (not (isZeroOf n))
+stepsRest n = both (leb (natAbs (n .0)) restLimit) (not (isZeroOf n))
 
 unfoldable pub timeRest : Milliseconds → Bool
-timeRest n = both (leb 1 (n .0)) (leb (n .0) 33554428)
+timeRest n = both (leb 1 (n .0)) (leb (n .0) restLimit)
 
 unfoldable pub isNothing : Remaining → Bool
 isNothing Nothing = true
@@ -91,7 +92,7 @@ isIndexed IndexedRun = true
 isIndexed NoRun = false
 isIndexed FreeRun = false
 isIndexed SearchRun = false
-isIndexed StoppedRun = false
+isIndexed DelayedStopRun = false
 
 unfoldable pub isDelay : Instruction → Bool
 isDelay i = eqb (codeOf i) 65
@@ -119,10 +120,10 @@ runPhase NoRun = false
 runPhase IndexedRun = true
 runPhase FreeRun = true
 runPhase SearchRun = true
-runPhase StoppedRun = true
+runPhase DelayedStopRun = true
 
 unfoldable pub brakingPhase : Motion → Bool
-brakingPhase StoppedRun = true
+brakingPhase DelayedStopRun = true
 brakingPhase NoRun = false
 brakingPhase IndexedRun = false
 brakingPhase FreeRun = false
@@ -133,14 +134,14 @@ slowingPhase FreeRun p = hasRamp p
 slowingPhase SearchRun p = true
 slowingPhase NoRun p = false
 slowingPhase IndexedRun p = false
-slowingPhase StoppedRun p = false
+slowingPhase DelayedStopRun p = false
 
 unfoldable pub backPhase : Motion → Bool
 backPhase SearchRun = true
 backPhase NoRun = false
 backPhase IndexedRun = false
 backPhase FreeRun = false
-backPhase StoppedRun = false
+backPhase DelayedStopRun = false
 
 -- 01: "the phase is one that the present cell's code has"
 unfoldable pub hasPhase : Phase → Instruction → Bool
@@ -155,7 +156,7 @@ hasPhase BackOff i = backPhase (profileOf i .motion)
 -- 01: "non-zero in an indexed run (slowing or not) .. 0 or along s in a 05's emergency slowing, else 0"
 unfoldable pub emergencyRest : Motion → Profile → Remaining → Bool
 emergencyRest IndexedRun p r = isSteps r
-emergencyRest StoppedRun p r = either (isNothing r) (isStepsAlong (p .backward) r)
+emergencyRest DelayedStopRun p r = either (isNothing r) (isStepsAlong (p .backward) r)
 emergencyRest NoRun p r = isNothing r
 emergencyRest FreeRun p r = isNothing r
 emergencyRest SearchRun p r = isNothing r

@@ -13,11 +13,12 @@ use Rattle.units.specs.declared.position.Position.{Position}
 use Rattle.instruction.specs.Runs.{profileOf}
 use Rattle.instruction.specs.declared.Cell.{Cell}
 use Rattle.instruction.specs.declared.run.Motion.{Motion}
-use Rattle.instruction.specs.declared.run.Motion.the-variants.{NoRun, IndexedRun, FreeRun, SearchRun, StoppedRun}
+use Rattle.instruction.specs.declared.run.Motion.the-variants.{NoRun, IndexedRun, FreeRun, SearchRun, DelayedStopRun}
 use Rattle.instruction.specs.declared.run.Profile.{Profile}
-use Rattle.machine.specs.Record.{noCam, nothingSuspended, withPosition, withCam, withOutput, withSuspended, outputAt, outO3, stopped}
+use Rattle.machine.specs.Record.{noCam, withPosition, withCam, withOutput, outputAt, outO3}
 use Rattle.machine.specs.Starting.{advanced, inPhase}
 use Rattle.machine.specs.Milliseconds.{present}
+use Rattle.machine.specs.Stopping.{abandoned}
 use Rattle.machine.specs.declared.Remaining.{Remaining}
 use Rattle.machine.specs.declared.Remaining.the-variants.{Nothing, Counted, Timed}
 use Rattle.machine.specs.declared.Phase.{Phase}
@@ -26,17 +27,17 @@ use Rattle.machine.specs.declared.Running.{Running}
 use Rattle.machine.specs.declared.State.{State}
 
 -- 01: "A rest of steps has the sign of its direction"
-unfoldable pub remainingBackward : Remaining → Bool
+abbrev pub remainingBackward : Remaining → Bool
 remainingBackward (Counted n) = isNegativeOf n
 remainingBackward Nothing = false
 remainingBackward (Timed n) = false
 
-unfoldable pub motionBackward : Motion → Profile → Remaining → Bool
+abbrev pub motionBackward : Motion → Profile → Remaining → Bool
 motionBackward IndexedRun p r = remainingBackward r
 motionBackward NoRun p r = p .backward
 motionBackward FreeRun p r = p .backward
 motionBackward SearchRun p r = p .backward
-motionBackward StoppedRun p r = p .backward
+motionBackward DelayedStopRun p r = p .backward
 
 -- the direction of a run: an indexed run goes by its rest, "at LL against s" in back, every other along s
 unfoldable pub backwardIn : Phase → Profile → Remaining → Bool
@@ -48,9 +49,9 @@ backwardIn Braking p r = motionBackward (p .motion) p r
 backwardIn Slowing p r = motionBackward (p .motion) p r
 backwardIn EmergencySlowing p r = motionBackward (p .motion) p r
 
-unfoldable pub runsBackward : List Cell → State → Bool
-runsBackward cells s =
-    backwardIn (s .running .phase) (profileOf (present cells s .instruction)) (s .running .remaining)
+-- the same of a drive, given its present cell
+unfoldable pub runsBackward : State → Cell → Bool
+runsBackward s c = backwardIn (s .running .phase) (profileOf (c .instruction)) (s .running .remaining)
 
 -- 01: "If the cam is set and the new position equals its own, O3 is complemented and the cam unset (position 0)"
 unfoldable pub camTested : State → State
@@ -62,12 +63,9 @@ camTested s =
 unfoldable pub movedBy : Bool → State → State
 movedBy backward s = camTested (withPosition s (steppedOf (s .position) (not backward)))
 
-unfoldable pub moved : List Cell → State → State
-moved cells s = movedBy (runsBackward cells s) s
-
 -- 01: "if a rest reaches 0 meanwhile, the drive is idle with that step and the record empty"; else "Indexed rest falls to 0: next cell"
 unfoldable pub arrivedIn : Phase → State → CellAddress → State
-arrivedIn EmergencySlowing s next = stopped (withSuspended s nothingSuspended)
+arrivedIn EmergencySlowing s next = abandoned s
 arrivedIn Waiting s next = advanced s next
 arrivedIn Delay s next = advanced s next
 arrivedIn Run s next = advanced s next
@@ -83,5 +81,9 @@ counted (Counted n) s next =
 counted Nothing s next = s
 counted (Timed n) s next = s
 
+-- a step, given the present cell
+unfoldable pub stepAt : State → Cell → State
+stepAt s c = counted (s .running .remaining) (movedBy (runsBackward s c) s) (c .next)
+
 unfoldable pub step : List Cell → State → State
-step cells s = counted (s .running .remaining) (moved cells s) (present cells s .next)
+step cells s = stepAt s (present cells s)

@@ -13,7 +13,7 @@ use Rattle.units.specs.declared.Steps.{Steps}
 use Rattle.instruction.specs.Runs.{profileOf}
 use Rattle.instruction.specs.declared.Cell.{Cell}
 use Rattle.instruction.specs.declared.run.Motion.{Motion}
-use Rattle.instruction.specs.declared.run.Motion.the-variants.{NoRun, IndexedRun, FreeRun, SearchRun, StoppedRun}
+use Rattle.instruction.specs.declared.run.Motion.the-variants.{NoRun, IndexedRun, FreeRun, SearchRun, DelayedStopRun}
 use Rattle.instruction.specs.declared.run.Profile.{Profile}
 use Rattle.machine.specs.Record.{nothingSuspended, withSuspended, stopped, idle}
 use Rattle.machine.specs.Starting.{advanced, inPhase}
@@ -30,18 +30,19 @@ use Rattle.machine.specs.declared.State.{State}
 -- ---- free run stop
 
 -- 01, of 05: "nnn×m steps along s, or 1 if nnn is 0"
+unfoldable pub brakingCount : Steps → Bool → ℤ
+brakingCount n x4 = choose (isZeroOf n) (pos 1) (scaledOf n x4)
+
 unfoldable pub brakingSteps : Profile → Steps
 brakingSteps p =
     record {
-      0 =
-          choose (p .backward) (negℤ (choose (isZeroOf (p .steps)) (pos 1) (scaledOf (p .steps) (p .x4))))
-          (choose (isZeroOf (p .steps)) (pos 1) (scaledOf (p .steps) (p .x4)));
+      0 = choose (p .backward) (negℤ (brakingCount (p .steps) (p .x4))) (brakingCount (p .steps) (p .x4));
     }
 
 -- 01: "12, 22 pass on; 02, 32 slow until halted, then pass on; 05, only after at-speed, goes on nnn×m steps along s"; 01, 31, 11, 21 and 03 take no notice
 unfoldable pub freeRunStopOf : Motion → State → Profile → CellAddress → State
 freeRunStopOf FreeRun s p next = choose (eqb (p .ramp) 0) (advanced s next) (inPhase s Slowing Nothing)
-freeRunStopOf StoppedRun s p next = choose (s .running .«at_speed») (inPhase s Braking (Counted (brakingSteps p))) s
+freeRunStopOf DelayedStopRun s p next = choose (s .running .«at_speed») (inPhase s Braking (Counted (brakingSteps p))) s
 freeRunStopOf NoRun s p next = s
 freeRunStopOf IndexedRun s p next = s
 freeRunStopOf SearchRun s p next = s
@@ -56,9 +57,12 @@ freeRunStopIn Slowing s p next = s
 freeRunStopIn EmergencySlowing s p next = s
 freeRunStopIn BackOff s p next = s
 
+-- the same, given the present cell
+unfoldable pub freeRunStopAt : State → Cell → State
+freeRunStopAt s c = freeRunStopIn (s .running .phase) s (profileOf (c .instruction)) (c .next)
+
 unfoldable pub freeRunStop : List Cell → State → State
-freeRunStop cells s =
-    freeRunStopIn (s .running .phase) s (profileOf (present cells s .instruction)) (present cells s .next)
+freeRunStop cells s = freeRunStopAt s (present cells s)
 
 -- ---- PX
 
@@ -68,7 +72,7 @@ pxInRun SearchRun px s = choose px (inPhase s Slowing Nothing) s
 pxInRun NoRun px s = s
 pxInRun IndexedRun px s = s
 pxInRun FreeRun px s = s
-pxInRun StoppedRun px s = s
+pxInRun DelayedStopRun px s = s
 
 -- 01, of 03: "then at LL against s until PX is off, then pass on"
 unfoldable pub pxSeenIn : Phase → Bool → State → Profile → CellAddress → State
@@ -80,10 +84,12 @@ pxSeenIn Braking px s p next = s
 pxSeenIn Slowing px s p next = s
 pxSeenIn EmergencySlowing px s p next = s
 
--- 01: "PX is looked at when a phase begins and at each inputs word": here at an inputs word
+-- 01: "PX is looked at when a phase begins and at each inputs word": here at an inputs word, given the present cell
+unfoldable pub pxSeenAt : Bool → State → Cell → State
+pxSeenAt px s c = pxSeenIn (s .running .phase) px s (profileOf (c .instruction)) (c .next)
+
 unfoldable pub pxSeen : Bool → List Cell → State → State
-pxSeen px cells s =
-    pxSeenIn (s .running .phase) px s (profileOf (present cells s .instruction)) (present cells s .next)
+pxSeen px cells s = pxSeenAt px s (present cells s)
 
 -- ---- emergency stop
 
@@ -114,6 +120,9 @@ emergencyIn Slowing s c = emergencySlowed s
 emergencyIn EmergencySlowing s c = s
 emergencyIn BackOff s c = interrupted s
 
--- 01: "Emergency stop (string or input EE, before ES): a busy program ends"
+-- 01: "Emergency stop (string or input EE, before ES): a busy program ends", given the present cell
+unfoldable pub emergencyStopAt : State → Cell → State
+emergencyStopAt s c = choose (idle s) s (emergencyIn (s .running .phase) s c)
+
 unfoldable pub emergencyStop : List Cell → State → State
-emergencyStop cells s = choose (idle s) s (emergencyIn (s .running .phase) s (present cells s))
+emergencyStop cells s = emergencyStopAt s (present cells s)

@@ -19,9 +19,9 @@ use Rattle.instruction.specs.declared.ConditionName.{ConditionName}
 use Rattle.instruction.specs.declared.Instruction.{Instruction}
 use Rattle.instruction.specs.declared.Instruction.the-variants.{Null, IndexedRamp, IndexedRampFine, FreeRamp, FreeRampFine, Indexed, IndexedFine, Free, FreeFine, ZeroSearch, DelayedStop, CamSetting, OutputSetting, CounterReset, OpeningLoop, ClosingLoop, ConditionalJump, TimeDelay, Recovery, CurrentSetting}
 use Rattle.instruction.specs.declared.run.Motion.{Motion}
-use Rattle.instruction.specs.declared.run.Motion.the-variants.{NoRun, IndexedRun, FreeRun, SearchRun, StoppedRun}
+use Rattle.instruction.specs.declared.run.Motion.the-variants.{NoRun, IndexedRun, FreeRun, SearchRun, DelayedStopRun}
 use Rattle.instruction.specs.declared.run.Profile.{Profile}
-use Rattle.machine.specs.Record.{cellAt, origin, nothingSuspended, withPosition, withCam, withSuspended, withRunning, withLoopCount, withOutput, inputAt, outputAt, inPX, inES, outF0, outCU, stopped}
+use Rattle.machine.specs.Record.{cellAt, origin, nothingSuspended, withPosition, withCam, withSuspended, withRunning, withLoopCount, withOutput, inputAt, outputAt, inPX, inES, outF0, outCU, stopped, isAbsolute}
 use Rattle.machine.specs.Starting.{waitingAt, advanced, failed, entered}
 use Rattle.machine.specs.declared.Resolution.{Resolution}
 use Rattle.machine.specs.declared.Resolution.the-variants.{D0, D1, D2, D3, B0, B1, B2, B3}
@@ -51,7 +51,7 @@ unfoldable pub takeTimeDelay : State → Milliseconds → CellAddress → State
 takeTimeDelay s n next = choose (eqb (n .0) 0) (advanced s next) (entered s Delay (Timed n))
 
 -- 01: "x4 with RS not D2, D3, B2, B3 is error 51"
-unfoldable pub allowsX4 : Resolution → Bool
+abbrev pub allowsX4 : Resolution → Bool
 allowsX4 D0 = false
 allowsX4 D1 = false
 allowsX4 D2 = true
@@ -71,12 +71,12 @@ beginIndexed s shift next =
 
 -- 01: "Indexed: shift = n×m; in absolute mode n×m less position"
 unfoldable pub shiftFor : State → Profile → ℤ
-shiftFor s p = shiftOf (p .steps) (p .x4) (s .presets .absolute) (s .position)
+shiftFor s p = shiftOf (p .steps) (p .x4) (isAbsolute (s .presets)) (s .position)
 
 -- 01: in absolute mode, "beyond 8,388,607×m either way error 50. Shift 0 passes on."
 unfoldable pub takeIndexed : State → Profile → CellAddress → State
 takeIndexed s p next =
-    choose (both (s .presets .absolute) (isBeyondOf (shiftFor s p) (p .x4))) (failed s 50) (beginIndexed s (shiftFor s p) next)
+    choose (both (isAbsolute (s .presets)) (isBeyondOf (shiftFor s p) (p .x4))) (failed s 50) (beginIndexed s (shiftFor s p) next)
 
 -- 01: "02, 32, 12, 22 and 05 are passed over while input ES is on"
 unfoldable pub takeFree : State → CellAddress → State
@@ -91,7 +91,7 @@ takeMotion NoRun s p next = advanced s next
 takeMotion IndexedRun s p next = takeIndexed s p next
 takeMotion FreeRun s p next = takeFree s next
 takeMotion SearchRun s p next = takeSearch s
-takeMotion StoppedRun s p next = takeFree s next
+takeMotion DelayedStopRun s p next = takeFree s next
 
 -- 01: "Runs: x4 with RS not D2, D3, B2, B3 is error 51", before all else
 unfoldable pub takeRun : State → Profile → CellAddress → State
@@ -133,17 +133,14 @@ restored s =
     withRunning (withSuspended s nothingSuspended) (waitingAt (s .suspended .cell) (s .suspended .loops))
 
 -- 01: "69: empty record ends the program; else ..": c is the record's cell
-unfoldable pub recoverWith : State → Cell → State
-recoverWith s c =
+unfoldable pub recover : State → Cell → State
+recover s c =
     choose (eqb (s .suspended .cell .0) 0) (stopped s) (resume (s .suspended .remaining) (restored s) c)
-
-unfoldable pub recover : List Cell → State → State
-recover cells s = recoverWith s (cellAt cells (s .suspended .cell))
 
 -- code 69
 unfoldable pub isRecovery : Instruction → Bool
 isRecovery i = eqb (codeOf i) 69
 
--- taking a cell that stands in the memory
-unfoldable pub takeCell : List Cell → State → Cell → State
-takeCell cells s c = choose (isRecovery (c .instruction)) (recover cells s) (take s (c .instruction) (c .next))
+-- taking a cell, given the interrupted record's cell, where a 69 goes on
+unfoldable pub takeCell : State → Cell → Cell → State
+takeCell s c held = choose (isRecovery (c .instruction)) (recover s held) (take s (c .instruction) (c .next))

@@ -1,17 +1,50 @@
 // What a string asks for, once its fields are read.
 ghost use mathlib.Core.Path.{_≡_};
 ghost use Rattle.machine.specs.Commands.{presetKind};
+use crate::Resolution;
 use fields::kinds::Kind;
 use fields::names::Names;
 use instruction::Cell;
 use units::CellAddress;
+use units::DriveAddress;
+
+// The address in a string: of one drive, or 99 for every drive. Not a drive's own address.
+pub struct StringAddress(pub u16);
+
+impl StringAddress {
+    pub const EVERY: u16 = 99;
+}
+
+// The first four bytes of a string.
+pub struct Header {
+    // Whether the first two are digits.
+    pub digits: bool,
+    // What they say as digits.
+    pub address: StringAddress,
+    // The other two as one number.
+    pub code: u16,
+}
+
+// A preset with a value.
+pub enum PresetValue {
+    // AD
+    Address(DriveAddress),
+    // IN
+    Current(u8),
+    // RS
+    Resolution(Resolution),
+    // ES
+    Interlock(bool),
+    // CM
+    Absolute(bool),
+}
 
 // The commands and requests of 01, "Strings". Names stand as their place in their list.
 pub enum Command {
     // WN
     Store { at: CellAddress, cell: Cell },
-    // WS: which preset, and its value; of RS the place in its list
-    SetPreset { preset: u8, value: u8 },
+    // WS
+    SetPreset { value: PresetValue },
     // PS
     Start { at: CellAddress },
     // EE
@@ -40,7 +73,7 @@ pub enum Command {
     AskFault,
     // QR
     AskSuspended,
-    // An unknown code, a wrong field or a value out of range.
+    // An unknown code, a wrong field or a value out of range; a PS that input EE forbids.
     Wrong,
 }
 

@@ -8,6 +8,7 @@ use units::Position;
 use units::Steps;
 
 pub mod answers;
+pub mod codes;
 pub mod commands;
 pub mod theorems;
 
@@ -93,6 +94,28 @@ pub struct State {
     pub fault: Fault,
     pub suspended: Suspended,
     pub running: Running,
+}
+
+impl State {
+    // The places of the inputs that a rule of 01 names; S1 to S3 follow S0.
+    pub const PX: usize = 3;
+
+    pub const S0: usize = 4;
+
+    pub const ST: usize = 8;
+
+    pub const ES: usize = 9;
+
+    pub const EE: usize = 10;
+
+    // The places of the outputs that a rule of 01 names; F1 to F7 follow F0.
+    pub const O3: usize = 3;
+
+    pub const FC: usize = 4;
+
+    pub const F0: usize = 5;
+
+    pub const CU: usize = 13;
 }
 
 // The whole record of a drive. Cell 100 stands at place 0.

@@ -3,14 +3,32 @@ ghost use mathlib.Core.Path.{_≡_};
 ghost use mathlib.Core.Bool.{true};
 ghost use Rattle.laws.specs.Tables.{every};
 ghost use Rattle.machine.specs.Cases.{holds, starred};
+ghost use Rattle.machine.specs.Demand1.{Demand1};
+ghost use Rattle.machine.specs.Demand2.{Demand2};
 ghost use Rattle.machine.specs.Demand3.{Demand3};
 ghost use Rattle.machine.specs.Invariant.{Invariant};
+ghost use Rattle.machine.specs.WorkedCases.{WorkedCases};
 
 // A fresh drive is sound, every call keeps a sound drive sound, a refusal gives back the drive as
 // it came, an idle drive has its five busy fields zero, and a wait gives the least number of
 // milliseconds after which it may end. The statement is in specs/Invariant.antt.
 pub fn invariant()
     ensures { λ r. ⌜ Invariant ⌝ }
+{}
+
+// Demand 1: every call on every record is refused by the first number of 01's list that applies, or
+// by none; a refusal changes nothing; a sound drive stays sound; and a wait gives the least number
+// of milliseconds. The statement is in specs/Demand1.antt.
+pub fn demand_one()
+    ensures { λ r. ⌜ Demand1 ⌝ }
+{}
+
+// Demand 2: a WN whose fields are in range is answered Y, stored and read back in its normal form,
+// and no other call changes a cell; WS, SA, SO and SC are read back as sent; the cell that QM shows
+// is the one that a PS starts at, drives that read back alike run alike, and a 21 or 22 shows and
+// runs at the greatest table value not above the one sent. The statement is in specs/Demand2.antt.
+pub fn demand_two()
+    ensures { λ r. ⌜ Demand2 ⌝ }
 {}
 
 // Demand 3, whole: two drives, each made fresh and put through a list of its own, both idle
@@ -25,4 +43,10 @@ pub fn demand_three()
 // Each case that 01 marks with a star holds. The table is in specs/Cases.antt.
 pub fn starred_cases()
     ensures { λ r. ⌜ every holds starred ≡ true ⌝ }
+{}
+
+// Each worked case holds: after a list of calls comes the answer, the order, the end of a wait or
+// the refusal that 01 or the manual gives. The tables are in specs/WorkedCases.antt.
+pub fn worked_cases()
+    ensures { λ r. ⌜ WorkedCases ⌝ }
 {}

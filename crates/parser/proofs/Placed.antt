@@ -20,7 +20,7 @@ use Rattle.fields.specs.declared.kinds.Kind.the-variants.{Name}
 use Rattle.fields.specs.declared.names.Names.{Names}
 use Rattle.fields.specs.declared.names.Names.the-variants.{Presets}
 use Rattle.fields.proofs.Validity.{fields-valid, all-valid}
-use Rattle.instruction.specs.Formats.{cell}
+use Rattle.format.specs.Formats.{cell}
 use Rattle.instruction.specs.Numbers.{byteOf}
 use Rattle.instruction.specs.Texts.{sentCell}
 use Rattle.instruction.specs.declared.text.Sent.{Sent}
@@ -29,7 +29,7 @@ use Rattle.instruction.specs.declared.text.Sent.the-variants as sent
 use Rattle.instruction.proofs.Sending.{sent-sound}
 use Rattle.units.specs.declared.CellAddress.{CellAddress}
 use Rattle.machine.specs.Soundness.{isCell}
-use Rattle.machine.specs.Commands.{fieldsAt, onAll, onSent, storeIn, presetIn, camWith, camIn, commandOf, placed}
+use Rattle.machine.specs.Commands.{fieldsAt, onAll, onSent, storeIn, presetIn, camWith, camIn, commandBy, placed}
 use Rattle.machine.specs.declared.commands.Command.{Command}
 use Rattle.machine.proofs.Ranges.{first-valid, address-cell, on-fields}
 
@@ -65,18 +65,16 @@ module _ (s : List ℕ) where
       on-fields Placed _ _ (λ t. on-sent _ _ (address-cell _ (fields-valid (cell ∷ []) s fieldsAt refl (lit≤ tt) t)) _ refl) refl
 
   preset-placed : Placed (presetIn s (parseFields (Name Presets ∷ []) s fieldsAt))
-  unfolding presetIn placed allGood every good both listOf listed
-  preset-placed =
-      on-fields Placed _ _ (λ t. on-fields Placed _ _ (λ u.
-      name-placed Presets [] _ (lit≤ tt) (fields-valid (Name Presets ∷ []) s fieldsAt refl (lit≤ tt) t)) refl) refl
+  unfolding presetIn placed
+  preset-placed = on-fields Placed _ _ (λ t. on-fields Placed _ _ (λ u. refl) refl) refl
 
   cam-placed : Placed (camIn s)
   unfolding camIn camWith placed allGood every good goodSigned both
   cam-placed = choose-by Placed _ (λ t. refl) (λ t. on-all _ _ refl (lit≤ tt) (λ vs v. refl))
 
-  pub command-placed : Placed (commandOf s)
-  unfolding commandOf placed allGood every good goodSigned both listOf listed
-  command-placed =
+  pub command-placed : (code : ℕ) → Placed (commandBy code s)
+  unfolding commandBy placed allGood every good goodSigned both listOf listed
+  command-placed code =
       choose-by Placed _ (λ t. store-placed) (λ t.
       choose-by Placed _ (λ t. preset-placed) (λ t.
       choose-by Placed _ (λ t. on-all _ _ refl (lit≤ tt) address-cell) (λ t.

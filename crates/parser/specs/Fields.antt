@@ -7,7 +7,7 @@ use Rattle.fields.specs.Rows.{parseFields}
 use Rattle.fields.specs.declared.kinds.Kind.{Kind}
 use Rattle.fields.specs.declared.kinds.Kind.the-variants.{Name}
 use Rattle.fields.specs.declared.names.Names.the-variants.{Settable, Presets}
-use Rattle.instruction.specs.Formats.{cell, bit}
+use Rattle.format.specs.Formats.{cell, bit}
 use Rattle.instruction.specs.Numbers.{byteOf, isOne}
 use Rattle.machine.specs.Commands.{fieldsAt, onAll, storeIn, presetIn}
 use Rattle.machine.specs.declared.commands.Command.{Command}

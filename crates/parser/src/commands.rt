@@ -1,6 +1,6 @@
 // Commands with several fields: WN, WS, SO and SC.
 ghost use mathlib.Core.Path.{_≡_};
-ghost use Rattle.machine.specs.Commands.{camWith, camIn};
+ghost use Rattle.machine.specs.Commands.{resolutionAt, presetWith, camWith, camIn};
 ghost use Rattle.parser.specs.Fields.{storeOf, presetOf, outputOf};
 use crate::row::FIELDS;
 use crate::row::row;
@@ -9,9 +9,12 @@ use fields::names::Names;
 use fields::rows;
 use instruction::text;
 use instruction::text::Sent;
+use machine::Resolution;
 use machine::commands::Command;
+use machine::commands::PresetValue;
 use machine::commands::preset_kind;
 use units::CellAddress;
+use units::DriveAddress;
 
 // WN: a cell's address, and the cell.
 pub fn store_in(s: &[u8]) -> Command
@@ -43,8 +46,36 @@ pub fn preset_in(s: &[u8]) -> Command
         return Command::Wrong;
     }
     Command::SetPreset {
-        preset: (k % 256) as u8,
-        value: (v.values[0] % 256) as u8,
+        value: preset_with(k, v.values[0]),
+    }
+}
+
+// The preset at a place of AD, IN, RS, ES, CM, with a value of its kind.
+fn preset_with(preset: u32, value: u32) -> PresetValue
+    ensures { λ r. ⌜ r ≡ presetWith preset value ⌝ }
+{
+    let byte = (value % 256) as u8;
+    match preset {
+        0 => PresetValue::Address(DriveAddress(byte)),
+        1 => PresetValue::Current(byte),
+        2 => PresetValue::Resolution(resolution_at(value)),
+        3 => PresetValue::Interlock(value == 1),
+        _ => PresetValue::Absolute(value == 1),
+    }
+}
+
+fn resolution_at(place: u32) -> Resolution
+    ensures { λ r. ⌜ r ≡ resolutionAt place ⌝ }
+{
+    match place {
+        0 => Resolution::D0,
+        1 => Resolution::D1,
+        2 => Resolution::D2,
+        3 => Resolution::D3,
+        4 => Resolution::B0,
+        5 => Resolution::B1,
+        6 => Resolution::B2,
+        _ => Resolution::B3,
     }
 }
 

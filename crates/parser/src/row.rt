@@ -1,7 +1,7 @@
 // Rows of up to two kinds: what the parser of fields takes.
 ghost use mathlib.Core.Path.{_≡_};
 ghost use Rattle.fields.specs.declared.kinds.Kind.the-variants.{Next};
-ghost use Rattle.instruction.specs.Formats.{sixKinds};
+ghost use Rattle.format.specs.Formats.{sixKinds};
 use fields::kinds::Kind;
 use fields::rows::Row;
 

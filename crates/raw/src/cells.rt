@@ -3,7 +3,6 @@ use crate::integers;
 use fields::kinds::Kind;
 use instruction::Cell;
 use instruction::Instruction;
-use instruction::format;
 use instruction::numbers;
 use units::CellAddress;
 use units::Position;
@@ -103,7 +102,8 @@ fn raw_cell(code: u64, v: [u32; 6]) -> Cell {
     numbers::cell_of(integers::low(code), v)
 }
 
-// The fields behind those of the code's row are of the kind Next, and 0.
+// The format's row has the kind Next behind the code's own fields, and the numbers there are 0; of
+// a 69 the first of them is read as its next.
 pub fn cell(n: [u64; 7]) -> Made {
     let code = n[0];
     let format = format::format_of(integers::low(code));

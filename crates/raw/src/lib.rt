@@ -3,11 +3,11 @@
 use machine::Machine;
 use machine::Phase;
 use machine::State;
-use script::names::Field;
 use units::CellAddress;
 
 mod cells;
 mod integers;
+mod names;
 mod rests;
 mod states;
 
@@ -82,10 +82,13 @@ fn put_together(machine: Machine, raw: Raw) -> Written {
     }
 }
 
-// A field set to an integer.
-pub fn write_field(machine: Machine, field: Field, value: u64) -> Written {
+// A field, by its place in the list of names, set to an integer.
+pub fn write_field(machine: Machine, place: usize, value: u64) -> Written {
     let raw = raw_of(machine.state);
-    put_together(machine, states::with_field(raw, field, value))
+    put_together(
+        machine,
+        states::with_field(raw, names::field_at(place), value),
+    )
 }
 
 // An output, by its place, set to 0 or 1.

@@ -1,18 +1,18 @@
 // A field of the state set to an integer.
 use crate::Raw;
 use crate::integers;
-use events::inputs::inputs_of;
+use crate::names::BitField;
+use crate::names::ByteField;
+use crate::names::Field;
+use crate::names::LoopField;
+use crate::names::PositionField;
+use crate::names::RestField;
+use inputs::inputs_of;
 use machine::Phase;
 use machine::Presets;
 use machine::Resolution;
 use machine::Running;
 use machine::State;
-use script::names::BitField;
-use script::names::ByteField;
-use script::names::Field;
-use script::names::LoopField;
-use script::names::PositionField;
-use script::names::RestField;
 
 fn with_byte(mut state: State, field: ByteField, v: u8) -> State {
     match field {
@@ -183,6 +183,5 @@ pub fn with_field(raw: Raw, field: Field, v: u64) -> Raw {
         Field::Resolution => with_state(raw, v <= 7, with_resolution(s, resolution_at(v))),
         Field::Inputs => with_state(raw, v <= 2047, with_inputs(s, integers::low_word(v))),
         Field::Phase => with_state(raw, v <= 6, with_phase(s, phase_at(v))),
-        Field::Unknown => with_state(raw, false, s),
     }
 }

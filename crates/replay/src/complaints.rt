@@ -1,31 +1,43 @@
 // What is said of a malformed line.
 use libc::STDERR_FILENO;
-use script::calls::Complaint;
-use script::text;
+use script::call::Complaint;
 use script::words;
 
-fn put_complaint(out: &mut [u8], at: usize, complaint: Complaint) -> usize {
+// The place of what is said of a line.
+fn place(complaint: Complaint) -> usize {
     match complaint {
-        Complaint::NotACall => text::put(out, at, b": not a call\n"),
-        Complaint::MissingOrExtraWord => text::put(out, at, b": missing or extra word\n"),
-        Complaint::NotANumber => text::put(out, at, b": not a number from 0 to 4294967295\n"),
-        Complaint::NumberTooLarge => text::put(out, at, b": a number is too large\n"),
-        Complaint::NotHex => text::put(out, at, b": not 1 to 256 bytes in lower-case hex\n"),
-        Complaint::UnknownName => text::put(out, at, b": unknown name\n"),
-        Complaint::NoDrive => text::put(out, at, b": the first call is not an accepted F\n"),
-        Complaint::LineTooLong => text::put(out, at, b": the line is too long\n"),
+        Complaint::NotACall => 0,
+        Complaint::MissingOrExtraWord => 1,
+        Complaint::NotANumber => 2,
+        Complaint::NumberTooLarge => 3,
+        Complaint::NotHex => 4,
+        Complaint::UnknownName => 5,
+        Complaint::NoDrive => 6,
+        Complaint::LineTooLong => 7,
     }
 }
 
-fn put_message(out: &mut [u8], line: u64, complaint: Complaint) -> usize {
-    let head = text::put(out, 0, b"line ");
-    let numbered = text::put_number(out, head, line);
-    put_complaint(out, numbered, complaint)
+// What is said, by its place.
+fn write_message(place: usize) {
+    if place < 3 {
+        let messages = b"not a call\nmissing or extra word\nnot a number from 0 to 4294967295";
+        io::write_all(STDERR_FILENO, words::part(messages, place, b'\n'));
+        return;
+    }
+    if place < 6 {
+        let messages = b"a number is too large\nnot 1 to 256 bytes in lower-case hex\nunknown name";
+        io::write_all(STDERR_FILENO, words::part(messages, place - 3, b'\n'));
+        return;
+    }
+    let messages = b"the first call is not an accepted F\nthe line is too long";
+    io::write_all(STDERR_FILENO, words::part(messages, place - 6, b'\n'));
 }
 
 // A line on standard error.
 pub fn write(line: u64, complaint: Complaint) {
-    let mut space = [0u8; 128];
-    let end = put_message(&mut space, line, complaint);
-    io::write_all(STDERR_FILENO, words::part(&space, 0, end));
+    io::write_all(STDERR_FILENO, b"line ");
+    io::print_decimal(STDERR_FILENO, line);
+    io::write_all(STDERR_FILENO, b": ");
+    write_message(place(complaint));
+    io::write_all(STDERR_FILENO, b"\n");
 }

@@ -1,22 +1,16 @@
 // The calls, each with the first five words of what is seen of it: refusal, answer, buffer, end and
 // count.
-use crate::observed::put_answer;
-use crate::observed::put_plain;
-use crate::observed::put_refusal;
 use crate::reading;
+use crate::seen;
 use drive::Drive;
 use drive::results::Done;
-use drive::results::Ending;
-use drive::results::Ordered;
-use drive::results::Refusal;
-use frequency::Rounded;
-use machine::answers::End;
+use lines::gathering::front;
+use machine::Machine;
 use raw::Written;
-use script::calls::Call;
-use script::text::Sum;
-use script::text::put;
-use script::text::put_number;
-use script::words;
+use script::call::Call;
+use script::call::Event;
+use script::call::Look;
+use script::call::Write;
 use units::DriveAddress;
 use units::Milliseconds;
 
@@ -43,17 +37,22 @@ fn word(number: u32) -> u16 {
 }
 
 // A refused address leaves the drive before in use.
-fn fresh(drive: Drive, number: u32, out: &mut [u8], at: usize) -> Turn {
+fn fresh(drive: Drive, number: u32) -> Done {
     let made = Drive::fresh(address(number));
     let refusal = made.refusal;
-    let next = put_plain(out, at, refusal);
     if refusal.number() != 0 {
-        return Turn { drive, at: next };
+        return Done { refusal, drive };
     }
-    let after = made.drive;
-    Turn {
-        drive: after,
-        at: next,
+    made
+}
+
+fn event(drive: Drive, event: Event) -> Done {
+    match event {
+        Event::Inputs(number) => drive.inputs(word(number)),
+        Event::Millisecond => drive.millisecond(),
+        Event::Step => drive.step(),
+        Event::AtSpeed => drive.at_speed(),
+        Event::Halted => drive.halted(),
     }
 }
 
@@ -62,48 +61,28 @@ fn done(done: Done, out: &mut [u8], at: usize) -> Turn {
     let drive = done.drive;
     Turn {
         drive,
-        at: put_plain(out, at, refusal),
+        at: seen::put_plain(out, at, refusal.number()),
     }
 }
 
-// What is seen of a string: the answer at the front of the buffer, and all of the buffer.
-fn put_told(out: &mut [u8], at: usize, refusal: Refusal, length: usize, buffer: &[u8]) -> usize {
-    let a = put_refusal(out, at, refusal);
-    let b = put_answer(out, a, words::part(buffer, 0, length));
-    let c = put(out, b, b" ");
-    let whole = Sum::new().with_all(buffer);
-    let d = put_number(out, c, whole.sum);
-    put(out, d, b" - -")
+// The first bytes of a buffer, all of it where it has no more.
+fn lent(space: &mut [u8], n: usize) -> &mut [u8] {
+    if space.len() < n {
+        return space;
+    }
+    &mut space[0..n]
 }
 
 // A string, with a buffer of some size, each byte of one value.
 fn tell(drive: Drive, string: &[u8], size: usize, fill: u8, out: &mut [u8], at: usize) -> Turn {
     let mut space = [fill; 256];
-    let buffer = words::front(&mut space, size);
+    let buffer = lent(&mut space, size);
     let told = drive.string(string, buffer);
     let after = told.drive;
     let refusal = told.refusal;
     Turn {
         drive: after,
-        at: put_told(out, at, refusal, told.length, buffer),
-    }
-}
-
-fn put_end(out: &mut [u8], at: usize, end: End) -> usize {
-    match end {
-        End::Idle => put(out, at, b" idle "),
-        End::Moving => put(out, at, b" moving "),
-        End::Spent => put(out, at, b" spent "),
-    }
-}
-
-fn put_ending(out: &mut [u8], at: usize, ending: Ending) -> usize {
-    match ending {
-        Ending::NoWait => put(out, at, b" - -"),
-        Ending::Ended { end, given } => {
-            let next = put_end(out, at, end);
-            put_number(out, next, given.0 as u64)
-        }
+        at: seen::put_told(out, at, refusal.number(), told.length, buffer),
     }
 }
 
@@ -112,48 +91,32 @@ fn wait(drive: Drive, budget: u32, out: &mut [u8], at: usize) -> Turn {
     let after = waited.drive;
     let refusal = waited.refusal;
     let ending = waited.ending;
-    let a = put_refusal(out, at, refusal);
-    let b = put(out, a, b" - -");
     Turn {
         drive: after,
-        at: put_ending(out, b, ending),
+        at: seen::put_waited(out, at, refusal.number(), ending),
     }
 }
 
-fn put_order(drive: Drive, out: &mut [u8], at: usize) -> usize {
-    match drive.order() {
-        Ordered::Refused(refusal) => put_plain(out, at, refusal),
-        Ordered::Order(_) => put(out, at, b"- - - - -"),
+// What leaves the drive as it is.
+fn put_look(drive: Drive, look: Look, out: &mut [u8], at: usize) -> usize {
+    match look {
+        Look::Order => seen::put_order(out, at, drive.order()),
+        Look::Rounding(number) => seen::put_rounded(out, at, frequency::round(number)),
+        Look::Reading => reading::put_reading(drive, out, at),
     }
 }
 
-fn put_rounded(number: u32, out: &mut [u8], at: usize) -> usize {
-    match frequency::round(number) {
-        Rounded::Refused(refusal) => {
-            let next = put_number(out, at, refusal as u64);
-            put(out, next, b" - - - -")
-        }
-        Rounded::Value(value) => {
-            let a = put(out, at, b"- ");
-            let b = put_number(out, a, value as u64);
-            put(out, b, b" - - -")
-        }
+fn write(machine: Machine, write: Write, numbers: [u64; 7]) -> Written {
+    match write {
+        Write::Field { place, value } => raw::write_field(machine, place, value),
+        Write::Output { place, value } => raw::write_output(machine, place, value),
+        Write::Cell { place } => raw::write_cell(machine, place, numbers),
     }
-}
-
-fn put_verdict(out: &mut [u8], at: usize, held: bool, sound: bool) -> usize {
-    if !held {
-        return put(out, at, b"- unrepresentable - - -");
-    }
-    if sound {
-        return put(out, at, b"- sound - - -");
-    }
-    put(out, at, b"- unsound - - -")
 }
 
 fn written(drive: Drive, written: Written, out: &mut [u8], at: usize) -> Turn {
     let machine = written.machine;
-    let end = put_verdict(out, at, written.held, soundness::sound(machine));
+    let end = seen::put_verdict(out, at, written.held, soundness::sound(machine));
     if written.held {
         return Turn {
             drive: Drive { machine },
@@ -172,40 +135,19 @@ pub fn perform(
     out: &mut [u8],
     at: usize,
 ) -> Turn {
-    let machine = drive.machine;
     match call {
         Call::Comment => Turn { drive, at },
         Call::Malformed(_) => Turn { drive, at },
-        Call::Fresh(number) => fresh(drive, number, out, at),
+        Call::Fresh(number) => done(fresh(drive, number), out, at),
         Call::Tell { length, size, fill } => {
-            tell(drive, words::part(string, 0, length), size, fill, out, at)
+            tell(drive, front(string, length), size, fill, out, at)
         }
-        Call::Inputs(number) => done(drive.inputs(word(number)), out, at),
-        Call::Millisecond => done(drive.millisecond(), out, at),
-        Call::Step => done(drive.step(), out, at),
-        Call::AtSpeed => done(drive.at_speed(), out, at),
-        Call::Halted => done(drive.halted(), out, at),
+        Call::Happens(e) => done(event(drive, e), out, at),
         Call::Wait(budget) => wait(drive, budget, out, at),
-        Call::Order => Turn {
+        Call::Looks(look) => Turn {
             drive,
-            at: put_order(drive, out, at),
+            at: put_look(drive, look, out, at),
         },
-        Call::Rounding(number) => Turn {
-            drive,
-            at: put_rounded(number, out, at),
-        },
-        Call::Reading => Turn {
-            drive,
-            at: reading::put_reading(drive, out, at),
-        },
-        Call::WriteField { field, value } => {
-            written(drive, raw::write_field(machine, field, value), out, at)
-        }
-        Call::WriteOutput { output, value } => {
-            written(drive, raw::write_output(machine, output, value), out, at)
-        }
-        Call::WriteCell { place } => {
-            written(drive, raw::write_cell(machine, place, numbers), out, at)
-        }
+        Call::Writes(w) => written(drive, write(drive.machine, w, numbers), out, at),
     }
 }

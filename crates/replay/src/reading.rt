@@ -1,107 +1,79 @@
 // The full reading: 165 requests at the drive's own address.
-use crate::observed::put_refusal;
+use crate::seen::put_plain;
+use crate::seen::put_sum;
 use drive::Drive;
-use drive::results::Refusal;
-use fields::names;
-use fields::names::Names;
-use script::text::Sum;
-use script::text::put;
-use script::text::put_number;
+use lines::gathering::front;
+use lines::gathering::gather;
+use lines::gathering::gather_number;
+use observed::sums::Sum;
 use script::words;
 
-// The name at a place of a list, if there is one.
-fn put_name(out: &mut [u8], at: usize, list: Names, i: usize) -> usize {
-    if names::count(list) <= i {
-        return at;
+// Of a request that is not for a cell, by its place among those.
+fn put_named(out: &mut [u8], at: usize, k: usize) -> usize {
+    if k < 6 {
+        let presets = b"QS,AD QS,IN QS,RS QS,ES QS,CM QA";
+        return gather(out, at, words::part(presets, k, b' '));
     }
-    let x = names::name(list, i);
-    let pair = [(x / 256) as u8, (x % 256) as u8];
-    put(out, at, &pair)
+    if k < 13 {
+        let outputs = b"QO,O0 QO,O1 QO,O2 QO,O3 QO,FC QO,F0 QO,F1";
+        return gather(out, at, words::part(outputs, k - 6, b' '));
+    }
+    if k < 20 {
+        let outputs = b"QO,F2 QO,F3 QO,F4 QO,F5 QO,F6 QO,F7 QO,CU";
+        return gather(out, at, words::part(outputs, k - 13, b' '));
+    }
+    let inputs = b"QI,I0 QI,I1 QI,I2 QI,PX QI,S0 QI,S1 QI,S2 QI,S3 QI,ST QI,ES QI,EE QC QE QR";
+    gather(out, at, words::part(inputs, k - 20, b' '))
 }
 
 // The k-th request, without address and end.
 fn put_request(out: &mut [u8], at: usize, k: usize) -> usize {
     if k < 131 {
-        let next = put(out, at, b"QM,");
-        return put_number(out, next, 100 + k as u64);
+        let next = gather(out, at, b"QM,");
+        return gather_number(out, next, Drive::FIRST as u32 + k as u32);
     }
-    if k < 136 {
-        let next = put(out, at, b"QS,");
-        return put_name(out, next, Names::Presets, k - 131);
-    }
-    if k < 137 {
-        return put(out, at, b"QA");
-    }
-    if k < 151 {
-        let next = put(out, at, b"QO,");
-        return put_name(out, next, Names::Outputs, k - 137);
-    }
-    if k < 162 {
-        let next = put(out, at, b"QI,");
-        return put_name(out, next, Names::Inputs, k - 151);
-    }
-    if k < 163 {
-        return put(out, at, b"QC");
-    }
-    if k < 164 {
-        return put(out, at, b"QE");
-    }
-    put(out, at, b"QR")
+    put_named(out, at, k - 131)
 }
 
-// Two digits.
-fn put_address(out: &mut [u8], address: u8) -> usize {
-    if address < 10 {
-        let next = put(out, 0, b"0");
-        return put_number(out, next, address as u64);
-    }
-    put_number(out, 0, address as u64)
+// The same with both. Of an address that no sound drive has, the last two digits.
+fn put_string(out: &mut [u8], address: u8, k: usize) -> usize {
+    let digits = [b'0' + address / 10 % 10, b'0' + address % 10];
+    let a = gather(out, 0, &digits);
+    let b = put_request(out, a, k);
+    gather(out, b, b"\r")
 }
 
-// A reading under way: the drive, the refusal, and the sum of the answers.
+// A reading under way: the refusal's number, and the sum of the answers.
 pub struct Asked {
-    pub drive: Drive,
-    pub refusal: Refusal,
+    pub number: u8,
     pub sum: Sum,
 }
 
-// Sends one string with a buffer of 64 bytes.
-fn send(asked: Asked, string: &[u8]) -> Asked {
-    let mut space = [0u8; 64];
-    let buffer = &mut space[..];
-    let before = asked.drive;
-    let told = before.string(string, buffer);
-    let drive = told.drive;
-    let refusal = told.refusal;
-    let old = asked.sum;
-    let sum = old.with_all(words::part(buffer, 0, told.length));
-    Asked {
-        drive,
-        refusal,
-        sum,
-    }
+fn with_answer(asked: Asked, number: u8, answer: &[u8]) -> Asked {
+    let before = asked.sum;
+    let sum = before.with_all(answer);
+    Asked { number, sum }
 }
 
-fn ask(asked: Asked, k: usize) -> Asked {
-    let mut space = [0u8; 16];
-    let string = &mut space[..];
-    let machine = asked.drive.machine;
-    let address = machine.state.presets.address;
-    let a = put_address(string, address.0);
-    let b = put_request(string, a, k);
-    let end = put(string, b, b"\r");
-    send(asked, words::part(string, 0, end))
+// Sends one request, with a buffer of 64 bytes. It leaves the drive as it is.
+fn ask(drive: Drive, asked: Asked, k: usize) -> Asked {
+    let mut string = [0u8; 16];
+    let mut buffer = [0u8; 64];
+    let state = drive.machine.state;
+    let n = put_string(&mut string, state.presets.address.0, k);
+    let told = drive.string(front(&string, n), &mut buffer);
+    let refusal = told.refusal;
+    with_answer(asked, refusal.number(), front(&buffer, told.length))
 }
 
 fn ask_all(drive: Drive) -> Asked {
     let mut asked = Asked {
-        drive,
-        refusal: Refusal::None,
+        number: 0,
         sum: Sum::new(),
     };
     let mut k: usize = 0;
     while k < 165 {
-        asked = ask(asked, k);
+        asked = ask(drive, asked, k);
         k += 1;
     }
     asked
@@ -110,15 +82,8 @@ fn ask_all(drive: Drive) -> Asked {
 // The refusal, or the length of all answers and their weighted sum.
 pub fn put_reading(drive: Drive, out: &mut [u8], at: usize) -> usize {
     let asked = ask_all(drive);
-    let refusal = asked.refusal;
-    let sum = asked.sum;
-    let a = put_refusal(out, at, refusal);
-    if refusal.number() != 0 {
-        return put(out, a, b" - - - -");
+    if asked.number != 0 {
+        return put_plain(out, at, asked.number);
     }
-    let b = put(out, a, b" ");
-    let c = put_number(out, b, sum.count);
-    let d = put(out, c, b":");
-    let e = put_number(out, d, sum.sum);
-    put(out, e, b" - - -")
+    put_sum(out, at, asked.sum)
 }

@@ -14,6 +14,7 @@ use Rattle.laws.proofs.Tests.{both-left, both-right}
 use Rattle.fields.specs.Rows.{kinds, allGood, allValid, mostAll, printRow, PrintableRow}
 use Rattle.fields.specs.declared.rows.Row.{Row}
 use Rattle.fields.proofs.Lengths.{fields-most}
+use Rattle.machine.specs.declared.commands.StringAddress.{StringAddress}
 use Rattle.replies.specs.Pieces.{frontOf, Ready, ReadyRow}
 use Rattle.replies.proofs.Writing.{put-length, length-front}
 
@@ -21,7 +22,7 @@ use Rattle.replies.proofs.Writing.{put-length, length-front}
 unfoldable pub fits : Row → Bool
 fits r = both (leb (r .count) 6) (both (allGood (kinds r)) (leb (mostAll (kinds r)) 59))
 
-pub ready-row : (aa : ℕ) (r row : Row) (vs l : List ℕ) → Ready aa l → r ≡ row → fits row ≡ true → allValid (kinds row) vs ≡ true →
+pub ready-row : (aa : StringAddress) (r row : Row) (vs l : List ℕ) → Ready aa l → r ≡ row → fits row ≡ true → allValid (kinds row) vs ≡ true →
     ReadyRow aa r vs l
 unfolding fits
 ready-row aa r row vs l h e f v =
@@ -34,7 +35,7 @@ ready-row aa r row vs l h e f v =
     })
 
 -- after the front the row has room
-pub row-printable : (aa letter at : ℕ) (r : Row) (vs l l′ : List ℕ) → ReadyRow aa r vs l → Put l l′ (frontOf aa 81 letter) 0 at →
+pub row-printable : (aa : StringAddress) (letter at : ℕ) (r : Row) (vs l l′ : List ℕ) → ReadyRow aa r vs l → Put l l′ (frontOf aa 81 letter) 0 at →
     PrintableRow r vs at l′
 row-printable aa letter at r vs l l′ h p =
     record {
@@ -45,7 +46,8 @@ row-printable aa letter at r vs l l′ h p =
     }
 
 -- and after the row byte 13 has
-pub row-ended : (aa letter at next : ℕ) (r : Row) (vs l l′ l″ : List ℕ) → ReadyRow aa r vs l → Put l l′ (frontOf aa 81 letter) 0 at →
+pub row-ended : (aa : StringAddress) (letter at next : ℕ) (r : Row) (vs l l′ l″ : List ℕ) → ReadyRow aa r vs l →
+    Put l l′ (frontOf aa 81 letter) 0 at →
     Put l′ l″ (printRow r vs) at next → next + 1 ≤ length l″
 row-ended aa letter at next r vs l l′ l″ h p q =
     omega (

@@ -13,7 +13,7 @@ use Rattle.fields.specs.Kinds.{valid}
 use Rattle.fields.specs.declared.kinds.Kind.{Kind}
 use Rattle.fields.specs.declared.kinds.Kind.the-variants.{Fixed, Next, Count}
 use Rattle.fields.proofs.Bounds.{between-valid, valid-next}
-use Rattle.instruction.specs.Formats.{cell, bit}
+use Rattle.format.specs.Formats.{cell, bit}
 use Rattle.instruction.proofs.TestsFields.{valid-value}
 use Rattle.machine.specs.Record.{outputAt}
 use Rattle.machine.specs.Soundness.{presetsSound, faultSound}

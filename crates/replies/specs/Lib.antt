@@ -1,4 +1,2 @@
--- What the contracts cite beside the definitions of 01. Answers: the answer to a command, given the cell that it names.
--- Pieces: what an answer is made of, and what writing it asks.
-pub mod Answers
+-- Pieces: what an answer is made of, and what writing it asks. The answers themselves are 01's, in machine.
 pub mod Pieces

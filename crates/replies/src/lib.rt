@@ -1,13 +1,11 @@
 // The bytes that answer a string, in the lent buffer.
-ghost use Rattle.laws.specs.Tests.{choose};
 ghost use Rattle.laws.specs.Writing.{Put};
-ghost use Rattle.machine.specs.Record.{inputAt, inEE};
-ghost use Rattle.machine.specs.Answers.{accepted, rejected};
-ghost use Rattle.replies.specs.Answers.{answerAt, Answerable};
-ghost use Rattle.replies.specs.Pieces.{Ready};
+ghost use Rattle.machine.specs.Answers.{answerAt};
+ghost use Rattle.replies.specs.Pieces.{Answerable};
 use instruction::Cell;
 use machine::State;
 use machine::commands::Command;
+use machine::commands::StringAddress;
 use pieces::put_accepted;
 use pieces::put_rejected;
 use requests::put_cam;
@@ -23,26 +21,21 @@ mod pieces;
 mod requests;
 mod values;
 
-// PS is rejected while input EE is on.
-fn put_started(buf: &mut [u8], aa: u32, state: State) -> usize
-    requires { ⌜ Ready aa (now buf) ⌝ }
-    ensures { λ r. ⌜ Put (now (buf .entry)) (now (buf .exit)) (choose (inputAt state inEE) (rejected aa) (accepted aa)) 0 r ⌝ }
-{
-    if state.inputs[10] {
-        return put_rejected(buf, aa);
-    }
-    put_accepted(buf, aa)
-}
-
 // The answer to a command or request, given the cell that it names.
-pub fn put_answer(buf: &mut [u8], aa: u32, command: Command, state: State, cell: Cell) -> usize
+pub fn put_answer(
+    buf: &mut [u8],
+    aa: StringAddress,
+    command: Command,
+    state: State,
+    cell: Cell,
+) -> usize
     requires { ⌜ Answerable aa command state cell (now buf) ⌝ }
     ensures { λ r. ⌜ Put (now (buf .entry)) (now (buf .exit)) (answerAt command aa state cell) 0 r ⌝ }
 {
     match command {
         Command::Store { .. } => put_accepted(buf, aa),
         Command::SetPreset { .. } => put_accepted(buf, aa),
-        Command::Start { .. } => put_started(buf, aa, state),
+        Command::Start { .. } => put_accepted(buf, aa),
         Command::EmergencyStop => put_accepted(buf, aa),
         Command::FreeRunStop => put_accepted(buf, aa),
         Command::SetPosition { .. } => put_accepted(buf, aa),

@@ -12,8 +12,8 @@ use decimal::print;
 use fields::kinds::Kind;
 use fields::rows;
 use fields::rows::Row;
-
-const CARRIAGE_RETURN: u8 = 13;
+use machine::codes::CARRIAGE_RETURN;
+use machine::commands::StringAddress;
 
 // A row of at most three kinds.
 pub fn row(count: usize, k0: Kind, k1: Kind, k2: Kind) -> Row
@@ -38,11 +38,11 @@ pub fn any_signed() -> Kind
 }
 
 // The address in the string and two bytes.
-pub fn put_front(buf: &mut [u8], aa: u32, a: u8, b: u8) -> usize
+pub fn put_front(buf: &mut [u8], aa: StringAddress, a: u8, b: u8) -> usize
     requires { ⌜ Ready aa (now buf) ⌝ }
     ensures { λ r. ⌜ Put (now (buf .entry)) (now (buf .exit)) (frontOf aa a b) 0 r ⌝ }
 {
-    let at = print::put_digits(buf, 0, aa, 2);
+    let at = print::put_digits(buf, 0, aa.0 as u32, 2);
     buf[at] = a;
     buf[at + 1] = b;
     at + 2
@@ -58,7 +58,7 @@ pub fn put_end(buf: &mut [u8], at: usize) -> usize
 }
 
 // Y: a command that is carried out.
-pub fn put_accepted(buf: &mut [u8], aa: u32) -> usize
+pub fn put_accepted(buf: &mut [u8], aa: StringAddress) -> usize
     requires { ⌜ Ready aa (now buf) ⌝ }
     ensures { λ r. ⌜ Put (now (buf .entry)) (now (buf .exit)) (accepted aa) 0 r ⌝ }
 {
@@ -66,7 +66,7 @@ pub fn put_accepted(buf: &mut [u8], aa: u32) -> usize
 }
 
 // N: a string that is heard and not carried out.
-pub fn put_rejected(buf: &mut [u8], aa: u32) -> usize
+pub fn put_rejected(buf: &mut [u8], aa: StringAddress) -> usize
     requires { ⌜ Ready aa (now buf) ⌝ }
     ensures { λ r. ⌜ Put (now (buf .entry)) (now (buf .exit)) (rejected aa) 0 r ⌝ }
 {
@@ -74,7 +74,7 @@ pub fn put_rejected(buf: &mut [u8], aa: u32) -> usize
 }
 
 // The answer to a request whose fields are a row.
-pub fn put_row(buf: &mut [u8], aa: u32, letter: u8, shown: Row, values: [u32; 6]) -> usize
+pub fn put_row(buf: &mut [u8], aa: StringAddress, letter: u8, shown: Row, values: [u32; 6]) -> usize
     requires { ⌜ ReadyRow aa shown values (now buf) ⌝ }
     ensures { λ r. ⌜ Put (now (buf .entry)) (now (buf .exit)) (requestAnswer aa letter (printRow shown values)) 0 r ⌝ }
 {

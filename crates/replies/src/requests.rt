@@ -8,8 +8,8 @@ ghost use Rattle.fields.specs.declared.kinds.Kind.the-variants.{Next};
 ghost use Rattle.instruction.specs.Soundness.{cellSound};
 ghost use Rattle.machine.specs.Soundness.{isCell, presetsSound, faultSound};
 ghost use Rattle.machine.specs.Answers.{presetText, positionText, inputText, outputText, camText};
-ghost use Rattle.machine.specs.Answers.{faultText, suspendedText, answerOf};
-ghost use Rattle.replies.specs.Pieces.{cellFields, Ready};
+ghost use Rattle.machine.specs.Answers.{memoryText, faultText, suspendedText, answerOf};
+ghost use Rattle.replies.specs.Pieces.{Ready};
 use crate::pieces::any_signed;
 use crate::pieces::put_end;
 use crate::pieces::put_front;
@@ -27,11 +27,12 @@ use instruction::text;
 use machine::Cam;
 use machine::State;
 use machine::Suspended;
+use machine::commands::StringAddress;
 use machine::commands::preset_kind;
 use units::CellAddress;
 
 // QA: the position.
-pub fn put_position(buf: &mut [u8], aa: u32, state: State) -> usize
+pub fn put_position(buf: &mut [u8], aa: StringAddress, state: State) -> usize
     requires { ⌜ Ready aa (now buf) ⌝ }
     ensures { λ r. ⌜ Put (now (buf .entry)) (now (buf .exit)) (answerOf aa "QA" (positionText state)) 0 r ⌝ }
 {
@@ -40,7 +41,7 @@ pub fn put_position(buf: &mut [u8], aa: u32, state: State) -> usize
 }
 
 // QS: a preset, by its place in AD, IN, RS, ES, CM.
-pub fn put_preset(buf: &mut [u8], aa: u32, preset: u8, state: State) -> usize
+pub fn put_preset(buf: &mut [u8], aa: StringAddress, preset: u8, state: State) -> usize
     requires { ⌜ Ready aa (now buf) × ((preset < 5) × (presetsSound (state .presets) ≡ true)) ⌝ }
     ensures { λ r. ⌜ Put (now (buf .entry)) (now (buf .exit)) (answerOf aa "QS" (presetText preset state)) 0 r ⌝ }
 {
@@ -52,7 +53,7 @@ pub fn put_preset(buf: &mut [u8], aa: u32, preset: u8, state: State) -> usize
 }
 
 // QI: an input.
-pub fn put_input(buf: &mut [u8], aa: u32, input: u8, state: State) -> usize
+pub fn put_input(buf: &mut [u8], aa: StringAddress, input: u8, state: State) -> usize
     requires { ⌜ Ready aa (now buf) × (input < 11) ⌝ }
     ensures { λ r. ⌜ Put (now (buf .entry)) (now (buf .exit)) (answerOf aa "QI" (inputText input state)) 0 r ⌝ }
 {
@@ -68,7 +69,7 @@ pub fn put_input(buf: &mut [u8], aa: u32, input: u8, state: State) -> usize
 }
 
 // QO: an output, or BS or FA.
-pub fn put_output(buf: &mut [u8], aa: u32, output: u8, state: State) -> usize
+pub fn put_output(buf: &mut [u8], aa: StringAddress, output: u8, state: State) -> usize
     requires { ⌜ Ready aa (now buf) × (output < 16) ⌝ }
     ensures { λ r. ⌜ Put (now (buf .entry)) (now (buf .exit)) (answerOf aa "QO" (outputText output state)) 0 r ⌝ }
 {
@@ -83,9 +84,9 @@ pub fn put_output(buf: &mut [u8], aa: u32, output: u8, state: State) -> usize
 }
 
 // QM: a cell, as WN stored it.
-pub fn put_memory(buf: &mut [u8], aa: u32, at: CellAddress, cell: Cell) -> usize
+pub fn put_memory(buf: &mut [u8], aa: StringAddress, at: CellAddress, cell: Cell) -> usize
     requires { ⌜ Ready aa (now buf) × ((isCell at ≡ true) × (cellSound cell ≡ true)) ⌝ }
-    ensures { λ r. ⌜ Put (now (buf .entry)) (now (buf .exit)) (answerOf aa "QM" (cellFields at cell)) 0 r ⌝ }
+    ensures { λ r. ⌜ Put (now (buf .entry)) (now (buf .exit)) (answerOf aa "QM" (memoryText at cell)) 0 r ⌝ }
 {
     let place = put_front(buf, aa, b'Q', b'M');
     let shown = row(1, Kind::Fixed(3, 100, 230), Kind::Next, Kind::Next);
@@ -95,7 +96,7 @@ pub fn put_memory(buf: &mut [u8], aa: u32, at: CellAddress, cell: Cell) -> usize
 }
 
 // QC: the cam; of an unset one no position.
-pub fn put_cam(buf: &mut [u8], aa: u32, cam: Cam) -> usize
+pub fn put_cam(buf: &mut [u8], aa: StringAddress, cam: Cam) -> usize
     requires { ⌜ Ready aa (now buf) ⌝ }
     ensures { λ r. ⌜ Put (now (buf .entry)) (now (buf .exit)) (answerOf aa "QC" (camText cam)) 0 r ⌝ }
 {
@@ -108,7 +109,7 @@ pub fn put_cam(buf: &mut [u8], aa: u32, cam: Cam) -> usize
 }
 
 // QE: the error code and its cell.
-pub fn put_fault(buf: &mut [u8], aa: u32, state: State) -> usize
+pub fn put_fault(buf: &mut [u8], aa: StringAddress, state: State) -> usize
     requires { ⌜ Ready aa (now buf) × (faultSound (state .fault) ≡ true) ⌝ }
     ensures { λ r. ⌜ Put (now (buf .entry)) (now (buf .exit)) (answerOf aa "QE" (faultText state)) 0 r ⌝ }
 {
@@ -120,7 +121,7 @@ pub fn put_fault(buf: &mut [u8], aa: u32, state: State) -> usize
 }
 
 // QR: the interrupted record; an empty one is 000.
-pub fn put_suspended(buf: &mut [u8], aa: u32, suspended: Suspended) -> usize
+pub fn put_suspended(buf: &mut [u8], aa: StringAddress, suspended: Suspended) -> usize
     requires { ⌜ Ready aa (now buf) × (valid Next (suspended .cell .0) ≡ true) ⌝ }
     ensures { λ r. ⌜ Put (now (buf .entry)) (now (buf .exit)) (answerOf aa "QR" (suspendedText suspended)) 0 r ⌝ }
 {

@@ -1,8 +1,8 @@
-// Scripts of calls: a line of text as a call, and the text of what is seen of it.
-pub mod calls;
-pub mod hex;
-pub mod names;
-pub mod numbers;
-pub mod text;
+// Scripts of calls: a line of text as a call.
+pub mod call;
+mod hex;
+mod names;
+mod numbers;
+pub mod parse;
 pub mod words;
 mod writes;

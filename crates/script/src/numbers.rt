@@ -1,13 +1,8 @@
 // Numbers of a script. A signed one is held as its 64 bits in two's complement.
 ghost use mathlib.Core.Path.{_≡_};
+use decimal::parse::Number;
 
-// A number, or that a word is none.
-pub enum Number {
-    Value(u32),
-    Bad,
-}
-
-// The same with a sign.
+// A number with a sign, or that a word is none.
 pub enum Integer {
     Value(u64),
     Bad,

@@ -1,16 +1,15 @@
 // Raw writes: a field, an output or a cell, and what is to be written.
-use crate::calls::Call;
-use crate::calls::Complaint;
+use crate::call::Call;
+use crate::call::Complaint;
+use crate::call::Write;
 use crate::names;
-use crate::names::Field;
 use crate::numbers;
 use crate::numbers::Integer;
-use crate::numbers::Number;
 use crate::words;
+use decimal::parse::Number;
 use fields::kinds;
 use fields::kinds::Kind;
 use fields::names::Names;
-use instruction::format;
 
 // How many outputs the record has; the list of names goes on with two that it has not.
 const OUTPUTS: u32 = 14;
@@ -20,57 +19,43 @@ const FIRST: u32 = 100;
 
 const LAST: u32 = 230;
 
-fn field_is_signed(field: Field) -> bool {
-    match field {
-        Field::Byte(_) => false,
-        Field::Bit(_) => false,
-        Field::Position(_) => true,
-        Field::Loops(_) => false,
-        Field::Rest(_) => true,
-        Field::Resolution => false,
-        Field::Inputs => false,
-        Field::Phase => false,
-        Field::Unknown => false,
-    }
-}
-
-fn with_value(field: Field, number: Integer) -> Call {
+fn with_value(place: usize, number: Integer) -> Call {
     match number {
         Integer::Bad => Call::Malformed(Complaint::NotANumber),
-        Integer::Value(value) => Call::WriteField { field, value },
+        Integer::Value(value) => Call::Writes(Write::Field { place, value }),
     }
 }
 
-fn of_field(line: &[u8], count: usize, field: Field) -> Call {
+fn of_field(line: &[u8], count: usize, place: usize) -> Call {
     if count != 3 {
         return Call::Malformed(Complaint::MissingOrExtraWord);
     }
-    let word = words::word(line, 2);
-    if field_is_signed(field) {
-        return with_value(field, numbers::signed(word));
+    let word = words::part(line, 2, b' ');
+    if names::is_signed(place) {
+        return with_value(place, numbers::signed(word));
     }
-    with_value(field, numbers::plus(numbers::unsigned(word)))
+    with_value(place, numbers::plus(numbers::unsigned(word)))
 }
 
 fn of_output(line: &[u8], count: usize) -> Call {
     if count != 4 {
         return Call::Malformed(Complaint::MissingOrExtraWord);
     }
-    let name = kinds::parse_field(Kind::Name(Names::Outputs), words::word(line, 2));
-    let decimal::parse::Number::Value(output) = name else {
+    let name = kinds::parse_field(Kind::Name(Names::Outputs), words::part(line, 2, b' '));
+    let Number::Value(output) = name else {
         return Call::Malformed(Complaint::UnknownName);
     };
     if OUTPUTS <= output {
         return Call::Malformed(Complaint::UnknownName);
     }
-    let number = numbers::unsigned(words::word(line, 3));
+    let number = numbers::unsigned(words::part(line, 3, b' '));
     let Number::Value(value) = number else {
         return Call::Malformed(Complaint::NotANumber);
     };
-    Call::WriteOutput {
-        output: output as usize,
+    Call::Writes(Write::Output {
+        place: output as usize,
         value,
-    }
+    })
 }
 
 // The address in a name such as c100; 0 where it is none.
@@ -104,7 +89,7 @@ fn keep(word: &[u8], numbers: &mut [u64; 7], i: usize) -> bool {
 fn keep_all(line: &[u8], count: usize, numbers: &mut [u64; 7]) -> bool {
     let mut k: usize = 2;
     while k < count {
-        if !keep(words::word(line, k), numbers, k - 2) {
+        if !keep(words::part(line, k, b' '), numbers, k - 2) {
             return false;
         }
         k += 1;
@@ -137,11 +122,11 @@ fn of_cell(line: &[u8], count: usize, place: usize, numbers: &mut [u64; 7]) -> C
     if !takes(numbers[0], count - 3) {
         return Call::Malformed(Complaint::MissingOrExtraWord);
     }
-    Call::WriteCell { place }
+    Call::Writes(Write::Cell { place })
 }
 
 pub fn parse(line: &[u8], count: usize, numbers: &mut [u64; 7]) -> Call {
-    let name = words::word(line, 1);
+    let name = words::part(line, 1, b' ');
     if check::same(name, b"out") {
         return of_output(line, count);
     }
@@ -151,9 +136,9 @@ pub fn parse(line: &[u8], count: usize, numbers: &mut [u64; 7]) -> Call {
             return of_cell(line, count, (at - FIRST) as usize, numbers);
         }
     }
-    let field = names::field_of(name);
-    if let Field::Unknown = field {
+    let place = names::place_of(name);
+    if names::COUNT <= place {
         return Call::Malformed(Complaint::UnknownName);
     }
-    of_field(line, count, field)
+    of_field(line, count, place)
 }

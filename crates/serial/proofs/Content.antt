@@ -13,7 +13,7 @@ use Rattle.laws.proofs.Joins.{and-both, both-end, both-assoc}
 use Rattle.instruction.specs.Codes.{codeOf}
 use Rattle.instruction.specs.Numbers.{numbersOf}
 use Rattle.instruction.specs.declared.Cell.{Cell}
-use Rattle.machine.specs.Strings.{sameNumbers, sameContent}
+use Rattle.machine.specs.Acting.{sameNumbers, sameContent}
 
 module _ (same : Bool) (xs ys : List ℕ) (i : ℕ) where
   -- what is found so far, joined to what is left, stays the same when one more is compared

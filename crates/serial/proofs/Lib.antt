@@ -1,5 +1,5 @@
 -- Ends: a string that ends in byte 13 is not empty. Codes: the codes that the checks look for, as one number each. Content: the numbers
--- of two cells, compared one by one. Carried: what a command does and answers needs, of the memory, only the cell that it names. Sound:
+-- of two cells, compared one by one. Carried: what a command does and answers, by the cell that was read for it. Sound:
 -- what a sound drive says of that cell, and of what an answer shows. Told: what a string leaves and answers, by whether it is heard.
 mod Ends
 mod Codes

@@ -14,15 +14,15 @@ use Rattle.instruction.specs.Soundness.{cellSound}
 use Rattle.machine.specs.Record.{cellAt}
 use Rattle.machine.specs.Commands.{placed}
 use Rattle.machine.specs.Soundness.{presetsSound, faultSound, stateSound, sound}
-use Rattle.machine.specs.Strings.{stringAddress, addressed}
+use Rattle.machine.specs.Acting.{named, namedCell}
+use Rattle.machine.specs.Strings.{toEvery, addressed}
 use Rattle.machine.specs.declared.Machine.{Machine}
+use Rattle.machine.specs.declared.commands.Header.{Header}
 use Rattle.machine.specs.declared.commands.Command.{Command}
 use Rattle.machine.specs.declared.commands.Command.the-variants.{Store, SetPreset, Start, EmergencyStop, FreeRunStop, SetPosition, SetOutput, SetCam, AskPosition, AskPreset, AskInput, AskOutput, AskCell, AskCam, AskFault, AskSuspended, Wrong}
 use Rattle.machine.proofs.Cells.{cell-to}
 use Rattle.machine.proofs.Places.{place-sound, suspended-next, running-to, sound-cells, sound-state, sound-suspended, sound-running}
-use Rattle.replies.specs.Answers.{Answerable}
-use Rattle.serial.specs.Acting.{named}
-use Rattle.serial.proofs.Carried.{cellOf}
+use Rattle.replies.specs.Pieces.{Answerable}
 
 -- ---- the parts of a sound drive
 
@@ -42,7 +42,7 @@ present-to m h = running-to _ _ (sound-running m h)
 named-to : (k : Command) (m : Machine) → placed k ≡ true → sound m ≡ true → named k (m .state) .0 ≤ 230
 unfolding named placed
 named-to (Store a d) m p h = cell-to a (both-left _ _ p)
-named-to (SetPreset k v) m p h = present-to m h
+named-to (SetPreset v) m p h = present-to m h
 named-to (Start a) m p h = present-to m h
 named-to EmergencyStop m p h = present-to m h
 named-to FreeRunStop m p h = present-to m h
@@ -64,28 +64,29 @@ pub named-place : (k : Command) (m : Machine) → placed k ≡ true → sound m 
 named-place k m p h = omega (arith, named-to k m p h)
 
 -- it is sound
-pub named-sound : (k : Command) (m : Machine) → sound m ≡ true → cellSound (cellOf k m) ≡ true
-unfolding cellAt
+pub named-sound : (k : Command) (m : Machine) → sound m ≡ true → cellSound (namedCell k m) ≡ true
+unfolding namedCell cellAt
 named-sound k m h = place-sound (m .cells) (named k (m .state) .0 - 100) (sound-cells m h)
 
 -- ---- what an answer shows
 
 -- the address in a string that is heard has two digits
-address-small : (m : Machine) (s : List ℕ) → sound m ≡ true → addressed (m .state .presets .address .0) s ≡ true → stringAddress s ≤ 99
-unfolding addressed presetsSound
-address-small m s h t =
+address-small : (m : Machine) (h : Header) → sound m ≡ true → addressed (m .state .presets .address) h ≡ true → h .address .0 ≤ 99
+unfolding addressed toEvery presetsSound
+address-small m h s t =
     let own = m .state .presets .address .0 in
-    let small : own ≤ 47 = leb-true own 47 (both-left _ _ (presets-sound m h)) in
-    ⊎-elim (λ (e : eqb (stringAddress s) own ≡ true). omega (arith, small, eqb-true (stringAddress s) own e))
-    (λ (e : eqb (stringAddress s) 99 ≡ true). omega (arith, eqb-true (stringAddress s) 99 e)) (either-cases _ _ (both-right _ _ t))
+    let aa = h .address .0 in
+    let small : own ≤ 47 = leb-true own 47 (both-left _ _ (presets-sound m s)) in
+    ⊎-elim (λ (e : eqb aa own ≡ true). omega (arith, small, eqb-true aa own e))
+    (λ (e : eqb aa 99 ≡ true). omega (arith, eqb-true aa 99 e)) (either-cases _ _ (both-right _ _ t))
 
 pub answerable :
-    (k : Command) (m : Machine) (s buffer : List ℕ) → placed k ≡ true → sound m ≡ true →
-    addressed (m .state .presets .address .0) s ≡ true → 64 ≤ length buffer →
-    Answerable (stringAddress s) k (m .state) (cellOf k m) buffer
-answerable k m s buffer p h t room =
+    (k : Command) (m : Machine) (front : Header) (buffer : List ℕ) → placed k ≡ true → sound m ≡ true →
+    addressed (m .state .presets .address) front ≡ true → 64 ≤ length buffer →
+    Answerable (front .address) k (m .state) (namedCell k m) buffer
+answerable k m front buffer p h t room =
     record {
-      address = address-small m s h t;
+      address = address-small m front h t;
       names = p;
       presets = presets-sound m h;
       fault = fault-sound m h;

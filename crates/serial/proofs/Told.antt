@@ -2,38 +2,39 @@
 -- Assumes nothing.
 use Prim.Native.Nat.{ℕ, _≤_}
 use native.Mathlib.Omega.{arith}
-use mathlib.Core.Path.{_≡_, refl, sym, ap, _∙_}
+use mathlib.Core.Path.{_≡_, refl, sym, ap, subst, _∙_}
 use mathlib.Core.Bool.{Bool, true, false}
 use mathlib.Core.List.{List, []}
-use lib.Dec.{lit≤}
+use lib.Dec.{ltb, lit≤}
 use lib.ListN.{length}
-use Rattle.laws.specs.Tests.{choose, both}
+use Rattle.laws.specs.Tests.{choose}
 use Rattle.laws.specs.Writing.{Put}
 use Rattle.laws.proofs.Tests.{choose-by, choose-true, choose-false}
 use Rattle.laws.proofs.Writing.{put-front}
-use Rattle.machine.specs.Strings.{ended, bodyOf, stringAddress, addressed, free, toEvery, permitted, judged}
-use Rattle.machine.specs.Strings.{Heard, silent, carriedOut, unanswered, told}
+use Rattle.machine.specs.Commands.{commandBy, commandOf}
+use Rattle.machine.specs.Strings.{ended, bodyOf, headerOf, toEvery, admitted, judged, allowed}
+use Rattle.machine.specs.Strings.{Heard, silent, carriedOut, unanswered, toldIn, toldBy, told}
 use Rattle.machine.specs.Operations.{filled}
 use Rattle.machine.specs.declared.Machine.{Machine}
+use Rattle.machine.specs.declared.commands.Header.{Header}
 use Rattle.machine.specs.declared.commands.Command.{Command}
+use Rattle.machine.specs.declared.commands.Command.the-variants.{Wrong}
 use Rattle.serial.proofs.Carried.{answer-fits}
 
--- 01's checks 1 to 4
-abbrev pub isHeard : List ℕ → Machine → Bool
-isHeard b m =
-    both (ended b) (both (addressed (m .state .presets .address .0) (bodyOf b)) (both (free (m .state) (bodyOf b)) (permitted (bodyOf b))))
+-- ---- what is left: the drive r, and an answer of n bytes at the front of the buffer
+-- 01: "Answers fill the front; later bytes keep their content."
 
--- what a string asks for, carried out
-abbrev outcome : List ℕ → Machine → Command → Heard
-outcome b m k = carriedOut k (stringAddress (bodyOf b)) m
+abbrev pub Left : Machine → ℕ → List ℕ → List ℕ → Heard → Type 0
+Left r n l l′ h = (r ≡ h .machine) × ((n ≡ length (h .answer)) × (l′ ≡ filled (h .answer) l))
 
--- the answer of that, if the string is answered
-abbrev answerOf : List ℕ → Machine → Command → List ℕ
-answerOf b m k = choose (toEvery (bodyOf b)) [] (outcome b m k .answer)
+pub left-silent : (m : Machine) (l : List ℕ) {h : Heard} → h ≡ silent m → Left m 0 l l h
+unfolding filled
+left-silent m l e = subst (Left m 0 l l) (sym e) (refl, (refl, refl))
 
-pub told-silent : (b : List ℕ) (m : Machine) → isHeard b m ≡ false → told b m ≡ silent m
-unfolding told
-told-silent b m t = choose-false _ _ _ t
+pub left-as : {r : Machine} {n : ℕ} {l′ : List ℕ} {h k : Heard} (l : List ℕ) → h ≡ k → Left r n l l′ k → Left r n l l′ h
+left-as {r} {n} {l′} l e x = subst (Left r n l l′) (sym e) x
+
+-- ---- a string that ends in byte 13, by its header
 
 unanswered-machine : (e : Bool) (h : Heard) → unanswered e h .machine ≡ h .machine
 unfolding unanswered
@@ -45,25 +46,45 @@ unfolding unanswered choose
 unanswered-answer true h = refl
 unanswered-answer false h = refl
 
-told-heard : (b : List ℕ) (m : Machine) (k : Command) → isHeard b m ≡ true → k ≡ judged b (bodyOf b) →
-    told b m ≡ unanswered (toEvery (bodyOf b)) (outcome b m k)
-unfolding told
-told-heard b m k t e = choose-true _ _ _ t ∙ ap (λ (x : Command). unanswered (toEvery (bodyOf b)) (outcome b m x)) (sym e)
+module _ (h : Header) (k : Command) (m : Machine) where
+  pub not-admitted : admitted h (m .state) ≡ false → toldIn h k m ≡ silent m
+  unfolding toldIn
+  not-admitted t = choose-false _ _ _ t
 
-pub told-machine : (b : List ℕ) (m : Machine) (k : Command) {r : Machine} → isHeard b m ≡ true → k ≡ judged b (bodyOf b) →
-    r ≡ outcome b m k .machine → r ≡ told b m .machine
-told-machine b m k t e f =
-    f ∙ sym (ap (λ (h : Heard). h .machine) (told-heard b m k t e) ∙ unanswered-machine (toEvery (bodyOf b)) (outcome b m k))
+  heard-as : {j : Command} → admitted h (m .state) ≡ true → j ≡ allowed k (m .state) →
+      toldIn h k m ≡ unanswered (toEvery h) (carriedOut j (h .address) m)
+  unfolding toldIn
+  heard-as t e = choose-true _ _ _ t ∙ ap (λ (x : Command). unanswered (toEvery h) (carriedOut x (h .address) m)) (sym e)
 
--- 01: "Answers fill the front; later bytes keep their content."
-pub told-filled :
-    (b : List ℕ) (m : Machine) (k : Command) {l l′ : List ℕ} {n : ℕ} → isHeard b m ≡ true → k ≡ judged b (bodyOf b) → 64 ≤ length l →
-    Put l l′ (answerOf b m k) 0 n → (n ≡ length (told b m .answer)) × (l′ ≡ filled (told b m .answer) l)
-unfolding filled
-told-filled b m k {l} t e room p =
-    let answer : told b m .answer ≡ answerOf b m k =
-    ap (λ (h : Heard). h .answer) (told-heard b m k t e) ∙ unanswered-answer (toEvery (bodyOf b)) (outcome b m k) in
-    let few : length (answerOf b m k) ≤ 64 =
-    choose-by (λ (x : List ℕ). length x ≤ 64) (toEvery (bodyOf b)) (λ u. lit≤ tt) (λ u. answer-fits k (stringAddress (bodyOf b)) m) in
-    let fits : length (answerOf b m k) ≤ length l = omega arith in
-    rw answer (put-front p fits)
+  pub left-heard : {j : Command} {r : Machine} {n : ℕ} {l l′ : List ℕ} → admitted h (m .state) ≡ true → j ≡ allowed k (m .state) →
+      64 ≤ length l → r ≡ carriedOut j (h .address) m .machine →
+      Put l l′ (choose (toEvery h) [] (carriedOut j (h .address) m .answer)) 0 n → Left r n l l′ (toldIn h k m)
+  unfolding filled
+  left-heard {j = j} {l = l} t e room f p =
+      let o = carriedOut j (h .address) m in
+      let a = choose (toEvery h) [] (o .answer) in
+      let few : length a ≤ 64 =
+      choose-by (λ (x : List ℕ). length x ≤ 64) (toEvery h) (λ u. lit≤ tt) (λ u. answer-fits j (h .address) m) in
+      let fits : length a ≤ length l = omega arith in
+      left-as l (heard-as t e)
+      (f ∙ sym (unanswered-machine (toEvery h) o), rw (unanswered-answer (toEvery h) o) (put-front p fits))
+
+-- ---- a string
+
+pub told-unended : (b : List ℕ) (m : Machine) → ended b ≡ false → told b m ≡ silent m
+unfolding told toldBy
+told-unended b m t = choose-false _ _ _ t
+
+pub told-ended : (b : List ℕ) (m : Machine) (h : Header) (k : Command) → ended b ≡ true → h ≡ headerOf (bodyOf b) →
+    k ≡ choose (ltb 64 (length b)) Wrong (commandBy (h .code) (bodyOf b)) → told b m ≡ toldIn h k m
+unfolding told toldBy judged commandOf headerOf
+told-ended b m h k t e f =
+    choose-true _ _ _ t
+    ∙ sym (ap (λ (x : Header). toldIn x k m) e
+    ∙ ap (λ (x : Command). toldIn (headerOf (bodyOf b)) x m)
+    (f ∙ ap (λ (x : Header). choose (ltb 64 (length b)) Wrong (commandBy (x .code) (bodyOf b))) e))
+
+-- one that is not heard, whatever it asks for
+pub told-unheard : (b : List ℕ) (m : Machine) (h : Header) → ended b ≡ true → h ≡ headerOf (bodyOf b) → admitted h (m .state) ≡ false →
+    told b m ≡ silent m
+told-unheard b m h t e a = told-ended b m h _ t e refl ∙ not-admitted h _ m a

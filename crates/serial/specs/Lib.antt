@@ -1,4 +1,2 @@
--- What the contracts cite beside the definitions of 01. Acting: what a command does to the state, given the cell that it names.
--- Telling: what a string asks of the drive and the buffer.
-pub mod Acting
+-- Telling: what a string asks of the drive and the buffer. What it does and answers is 01's, in machine.
 pub mod Telling

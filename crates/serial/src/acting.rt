@@ -2,19 +2,13 @@
 ghost use Prim.Native.Nat.{_<_};
 ghost use mathlib.Core.Path.{_≡_};
 ghost use mathlib.Core.Bool.{true};
-ghost use Rattle.laws.specs.Tests.{choose};
-ghost use Rattle.instruction.specs.Runs.{profileOf};
 ghost use Rattle.instruction.specs.Soundness.{cellSound};
 ghost use Rattle.machine.specs.Record.{nothingSuspended, withSuspended, withPresets, withPosition};
-ghost use Rattle.machine.specs.Record.{withOutput, withCam, inputAt, inEE};
-ghost use Rattle.machine.specs.Starting.{started as startedOf};
-ghost use Rattle.machine.specs.Stopping.{freeRunStopIn};
+ghost use Rattle.machine.specs.Record.{withOutput, withCam};
+ghost use Rattle.machine.specs.Stopping.{freeRunStopAt};
 ghost use Rattle.machine.specs.Commands.{placed};
-ghost use Rattle.machine.specs.Strings.{sameContent, resolutionAt, withResolution, presetSet};
-ghost use Rattle.serial.specs.Acting.{named as namedOf, storedState, actedAt};
-use events::stopping::emergency_stop;
-use events::stopping::free_run_stop;
-use execution::starting::started;
+ghost use Rattle.machine.specs.Acting.{sameContent, storedState, withResolution, presetSet};
+ghost use Rattle.machine.specs.Acting.{named as namedOf, actedAt};
 use instruction::Cell;
 use machine::Cam;
 use machine::Presets;
@@ -23,6 +17,10 @@ use machine::Resolution;
 use machine::State;
 use machine::Suspended;
 use machine::commands::Command;
+use machine::commands::PresetValue;
+use progress::started;
+use stops::emergency::emergency_stop;
+use stops::free_run::free_run_stop;
 use units::CellAddress;
 use units::DriveAddress;
 use units::Position;
@@ -69,78 +67,54 @@ fn stored(state: State, at: CellAddress, old: Cell, new: Cell) -> State
     emptied(state)
 }
 
-fn resolution_at(place: u8) -> Resolution
-    ensures { λ r. ⌜ r ≡ resolutionAt place ⌝ }
-{
-    match place {
-        0 => Resolution::D0,
-        1 => Resolution::D1,
-        2 => Resolution::D2,
-        3 => Resolution::D3,
-        4 => Resolution::B0,
-        5 => Resolution::B1,
-        6 => Resolution::B2,
-        _ => Resolution::B3,
-    }
-}
-
-fn with_resolution(presets: Presets, value: u8) -> Presets
-    ensures { λ r. ⌜ r ≡ withResolution presets value ⌝ }
+fn with_resolution(presets: Presets, resolution: Resolution) -> Presets
+    ensures { λ r. ⌜ r ≡ withResolution presets resolution ⌝ }
 {
     Presets {
         address: DriveAddress(presets.address.0),
         current: presets.current,
-        resolution: resolution_at(value),
+        resolution,
         interlock: presets.interlock,
         absolute: presets.absolute,
     }
 }
 
-fn preset_set(mut presets: Presets, preset: u8, value: u8) -> Presets
-    ensures { λ r. ⌜ r ≡ presetSet presets preset value ⌝ }
+fn preset_set(mut presets: Presets, value: PresetValue) -> Presets
+    ensures { λ r. ⌜ r ≡ presetSet presets value ⌝ }
 {
-    if preset == 0 {
-        presets.address.0 = value;
-        return presets;
+    match value {
+        PresetValue::Address(address) => {
+            presets.address = address;
+            presets
+        }
+        PresetValue::Current(current) => {
+            presets.current = current;
+            presets
+        }
+        PresetValue::Resolution(resolution) => with_resolution(presets, resolution),
+        PresetValue::Interlock(on) => {
+            presets.interlock = on;
+            presets
+        }
+        PresetValue::Absolute(on) => {
+            presets.absolute = on;
+            presets
+        }
     }
-    if preset == 1 {
-        presets.current = value;
-        return presets;
-    }
-    if preset == 2 {
-        return with_resolution(presets, value);
-    }
-    if preset == 3 {
-        presets.interlock = value == 1;
-        return presets;
-    }
-    presets.absolute = value == 1;
-    presets
 }
 
-fn preset_stored(mut state: State, preset: u8, value: u8) -> State
-    ensures { λ r. ⌜ r ≡ withPresets state (presetSet (state .presets) preset value) ⌝ }
+fn preset_stored(mut state: State, value: PresetValue) -> State
+    ensures { λ r. ⌜ r ≡ withPresets state (presetSet (state .presets) value) ⌝ }
 {
     let old = state.presets;
-    let presets = preset_set(old, preset, value);
+    let presets = preset_set(old, value);
     state.presets = presets;
     state
 }
 
-// PS is rejected while input EE is on.
-fn started_by(state: State, at: CellAddress) -> State
-    ensures { λ r. ⌜ r ≡ choose (inputAt state inEE) state (startedOf state at) ⌝ }
-{
-    if state.inputs[10] {
-        return state;
-    }
-    started(state, at)
-}
-
 fn run_stopped(state: State, cell: Cell) -> State
     requires { ⌜ cellSound cell ≡ true ⌝ }
-    ensures { λ r. ⌜ r ≡ freeRunStopIn (state .running .phase) state
-        (profileOf (cell .instruction)) (cell .next) ⌝ }
+    ensures { λ r. ⌜ r ≡ freeRunStopAt state cell ⌝ }
 {
     let instruction = cell.instruction;
     let profile = instruction.profile();
@@ -182,8 +156,8 @@ pub fn acted(command: Command, state: State, cell: Cell) -> State
 {
     match command {
         Command::Store { at, cell: new } => stored(state, at, cell, new),
-        Command::SetPreset { preset, value } => preset_stored(state, preset, value),
-        Command::Start { at } => started_by(state, at),
+        Command::SetPreset { value } => preset_stored(state, value),
+        Command::Start { at } => started(state, at),
         Command::EmergencyStop => emergency_stop(state, cell),
         Command::FreeRunStop => run_stopped(state, cell),
         Command::SetPosition { bits } => position_set(state, bits),

@@ -1,47 +1,54 @@
-// Which strings are heard: 01's checks 1 to 4, in its order.
-ghost use Prim.Native.Nat.{ℕ, _-_, _≤_};
+// Which strings are heard, 01's checks 1 to 4 in its order, and what they ask for, checks 5 and 6.
+ghost use Prim.Native.Nat.{_-_, _≤_};
 ghost use mathlib.Core.Path.{_≡_};
 ghost use mathlib.Core.Bool.{true};
-ghost use mathlib.Core.List.{List};
+ghost use lib.Dec.{ltb};
 ghost use lib.ListN.{getD};
-ghost use Rattle.laws.specs.Tests.{both};
-ghost use Rattle.machine.specs.Commands.{codeIn, placed};
-ghost use Rattle.machine.specs.Strings.{ended as endedOf, bodyOf, isDigit, stringAddress};
+ghost use Rattle.laws.specs.Tests.{choose};
+ghost use Rattle.machine.specs.Commands.{commandBy, placed};
+ghost use Rattle.machine.specs.Strings.{ended as endedOf, isDigit, headerOf, toEvery};
 ghost use Rattle.machine.specs.Strings.{addressed as addressedOf, isStop, free as freeOf};
-ghost use Rattle.machine.specs.Strings.{permitted as permittedOf, toEvery, judged as judgedOf};
-use execution::starting::idle;
+ghost use Rattle.machine.specs.Strings.{permitted as permittedOf, admitted as admittedOf};
+ghost use Rattle.machine.specs.Strings.{allowed as allowedOf};
+ghost use Rattle.machine.specs.declared.commands.Command.the-variants.{Wrong};
 use machine::State;
+use machine::codes;
+use machine::codes::CARRIAGE_RETURN;
 use machine::commands::Command;
+use machine::commands::Header;
+use machine::commands::StringAddress;
+use progress::idle;
+use units::DriveAddress;
 
-// The address that means every drive.
-const EVERY: u32 = 99;
+// The bytes of the longest string, with its 13.
+const LONGEST: usize = 64;
 
 // A string ends in byte 13.
-fn ended(b: &[u8]) -> bool
+pub fn ended(b: &[u8]) -> bool
     ensures { λ r. ⌜ r ≡ endedOf (now (b .entry)) ⌝ }
 {
     let n = b.len();
     if n == 0 {
         return false;
     }
-    b[n - 1] == 13
+    b[n - 1] == CARRIAGE_RETURN
 }
 
 fn is_digit(b: u8) -> bool
     ensures { λ r. ⌜ r ≡ isDigit b ⌝ }
 {
-    (48 <= b) & (b <= 57)
+    (b'0' <= b) & (b <= b'9')
 }
 
 // The value of a digit; below the digits 0.
-fn digit_value(b: u8) -> u32
+fn digit_value(b: u8) -> u16
     ensures { λ r. ⌜ r ≡ b - 48 ⌝ }
     ensures small { λ r. ⌜ r ≤ 207 ⌝ }
 {
-    if b < 48 {
+    if b < b'0' {
         return 0;
     }
-    (b - 48) as u32
+    (b - b'0') as u16
 }
 
 // The byte at a place, 0 past the end.
@@ -54,91 +61,96 @@ fn byte_at(s: &[u8], i: usize) -> u8
     0
 }
 
-// The first two bytes as an address.
-pub fn string_address(s: &[u8]) -> u32
-    ensures { λ r. ⌜ r ≡ stringAddress (now (s .entry)) ⌝ }
+// The first four bytes of a string, which stands here without its byte 13.
+pub fn header_in(s: &[u8]) -> Header
+    ensures { λ r. ⌜ r ≡ headerOf (now (s .entry)) ⌝ }
 {
-    digit_value(byte_at(s, 0)) * 10 + digit_value(byte_at(s, 1))
+    let a = byte_at(s, 0);
+    let b = byte_at(s, 1);
+    let c = byte_at(s, 2);
+    let d = byte_at(s, 3);
+    Header {
+        digits: is_digit(a) & is_digit(b),
+        address: StringAddress(digit_value(a) * 10 + digit_value(b)),
+        code: (c as u16) * 256 + (d as u16),
+    }
 }
 
-fn addressed(own: u32, s: &[u8]) -> bool
-    ensures { λ r. ⌜ r ≡ addressedOf own (now (s .entry)) ⌝ }
+pub fn to_every(header: Header) -> bool
+    ensures { λ r. ⌜ r ≡ toEvery header ⌝ }
 {
-    if !is_digit(byte_at(s, 0)) {
-        return false;
-    }
-    if !is_digit(byte_at(s, 1)) {
-        return false;
-    }
-    let aa = string_address(s);
-    (aa == own) | (aa == EVERY)
+    header.address.0 == StringAddress::EVERY
 }
 
-// EE or ES.
+fn addressed(own: DriveAddress, header: Header) -> bool
+    ensures { λ r. ⌜ r ≡ addressedOf own header ⌝ }
+{
+    if !header.digits {
+        return false;
+    }
+    (header.address.0 == own.0 as u16) | to_every(header)
+}
+
 fn is_stop(code: u16) -> bool
-    ensures { λ r. ⌜ ((s : List ℕ) → codeIn s ≡ code → r ≡ isStop s) ⌝ }
+    ensures { λ r. ⌜ r ≡ isStop code ⌝ }
 {
-    (code == 0x4545) | (code == 0x4553)
+    (code == codes::EE) | (code == codes::ES)
 }
 
 // A busy drive hears only the stops.
-fn free(state: State, code: u16) -> bool
-    ensures { λ r. ⌜ ((s : List ℕ) → codeIn s ≡ code → r ≡ freeOf state s) ⌝ }
+fn free(state: State, header: Header) -> bool
+    ensures { λ r. ⌜ r ≡ freeOf state header ⌝ }
 {
     if idle(state) {
         return true;
     }
-    is_stop(code)
-}
-
-pub fn to_every(s: &[u8]) -> bool
-    ensures { λ r. ⌜ r ≡ toEvery (now (s .entry)) ⌝ }
-{
-    string_address(s) == EVERY
+    is_stop(header.code)
 }
 
 // To every drive go only WS, EE and ES.
-fn permitted(s: &[u8], code: u16) -> bool
-    requires { ⌜ codeIn (now s) ≡ code ⌝ }
-    ensures { λ r. ⌜ r ≡ permittedOf (now (s .entry)) ⌝ }
+fn permitted(header: Header) -> bool
+    ensures { λ r. ⌜ r ≡ permittedOf header ⌝ }
 {
-    if !to_every(s) {
+    if !to_every(header) {
         return true;
     }
-    (code == 0x5753) | is_stop(code)
+    (header.code == codes::WS) | is_stop(header.code)
 }
 
-// Whether the drive hears a string.
-pub fn hears(b: &[u8], state: State) -> bool
-    ensures { λ r. ⌜ r ≡ both (endedOf (now (b .entry)))
-        (both (addressedOf (state .presets .address .0) (bodyOf (now (b .entry))))
-        (both (freeOf state (bodyOf (now (b .entry)))) (permittedOf (bodyOf (now (b .entry)))))) ⌝ }
+// Whether the drive hears a string of this header.
+pub fn admitted(header: Header, state: State) -> bool
+    ensures { λ r. ⌜ r ≡ admittedOf header state ⌝ }
 {
-    if !ended(b) {
+    let own = state.presets.address;
+    if !addressed(own, header) {
         return false;
     }
-    let n = b.len() - 1;
-    let s = &b[..n];
-    let own = state.presets.address.0 as u32;
-    if !addressed(own, s) {
+    if !free(state, header) {
         return false;
     }
-    let code = parser::code_in(s);
-    if !free(state, code) {
-        return false;
-    }
-    permitted(s, code)
+    permitted(header)
 }
 
-// What a string that is heard asks for: a string over 64 bytes is wrong.
-pub fn judged(b: &[u8]) -> Command
-    requires { ⌜ endedOf (now b) ≡ true ⌝ }
-    ensures { λ r. ⌜ r ≡ judgedOf (now (b .entry)) (bodyOf (now (b .entry))) ⌝ }
+// What a string of this code asks for: with its 13, one over 64 bytes is wrong.
+pub fn judged(length: usize, code: u16, s: &[u8]) -> Command
+    ensures { λ r. ⌜ r ≡ choose (ltb 64 length) Wrong (commandBy code (now (s .entry))) ⌝ }
     ensures named { λ r. ⌜ placed r ≡ true ⌝ }
 {
-    let n = b.len();
-    if 64 < n {
+    if LONGEST < length {
         return Command::Wrong;
     }
-    parser::read_command(&b[..n - 1])
+    parser::read_command(code, s)
+}
+
+// A PS is wrong while input EE is on.
+pub fn allowed(command: Command, state: State) -> Command
+    ensures { λ r. ⌜ r ≡ allowedOf command state ⌝ }
+{
+    if !state.inputs[State::EE] {
+        return command;
+    }
+    if let Command::Start { .. } = command {
+        return Command::Wrong;
+    }
+    command
 }

@@ -2,31 +2,19 @@
 -- Assumes nothing.
 use Prim.Native.Nat.{ℕ}
 use native.Mathlib.Omega.{arith}
-use mathlib.Core.Path.{_≡_, refl, sym, _∙_}
+use mathlib.Core.Path.{_≡_, refl}
 use mathlib.Core.Bool.{Bool, true, false, _&&_, Bool·beq}
-use lib.Dec.{leb, leb·suc-suc}
-use lib.IntN.{ℤ, pos, negsuc, natAbs}
-use lib.Signed.{leZ}
 use mir.Syntax.{w16, w32}
-use mir.Val.{toZ, ofZ, Fits, SFits}
-use mir.Facts.{toZ-ofZ}
+use mir.Val.{Fits}
 use borrow.Author.Tests.{lt-ltb, le-leb}
 use Rattle.laws.specs.Tests.{both, same}
-use Rattle.laws.proofs.Joins.{and-both, both-end}
+use Rattle.laws.proofs.Joins.{and-both}
+use Rattle.units.specs.Limits.{loopLimit}
 use Rattle.units.specs.Remaining.{isNegativeOf}
 use Rattle.units.specs.declared.Steps.{Steps}
 use Rattle.units.specs.declared.position.Position.{Position}
 use Rattle.machine.specs.Soundness.{positionSound, loopCountSound, stepsRest, isStepsAlong}
 use Rattle.machine.specs.declared.Remaining.the-variants.{Counted}
-
-within : (z : ℤ) → leZ (negsuc 33554427) z && leZ z (pos 33554428) ≡ leb (natAbs z) 33554428
-within (pos n) = refl
-within (negsuc n) = and-both _ true ∙ both-end _ ∙ sym (leb·suc-suc n 33554427)
-
--- 01: "a rest is within 33,554,428 either way", of a number that was read back from its bits
-pub within-bits : (z : ℤ) → SFits w32 z →
-    leZ (negsuc 33554427) (toZ w32 (ofZ w32 z)) && leZ (toZ w32 (ofZ w32 z)) (pos 33554428) ≡ leb (natAbs z) 33554428
-within-bits z s = rw (toZ-ofZ s) (within z)
 
 beq-same : (a b : Bool) → Bool·beq a b ≡ same a b
 unfolding same
@@ -38,7 +26,7 @@ beq-same false false = refl
 -- 01: "a loop count is at most 65,535", as each one of 16 bits is
 pub loops-pass : {n : ℕ} (x : Bool) → Fits w16 n → both (loopCountSound n) x ≡ x
 unfolding both loopCountSound
-loops-pass {n} x f = rw (le-leb n 65535 (omega (arith, f .fits)))
+loops-pass {n} x f = rw (le-leb n loopLimit (omega (arith, f .fits)))
 
 -- 01: "position, 32 bits signed", as each one of 32 bits is
 pub position-pass : (p : Position) (x : Bool) → Fits w32 (p .0) → both (positionSound p) x ≡ x

@@ -9,7 +9,7 @@ use units::CellAddress;
 pub fn is_cell(address: CellAddress) -> bool
     ensures { λ r. ⌜ r ≡ isCell address ⌝ }
 {
-    (100 <= address.0) & (address.0 <= 230)
+    (CellAddress::FIRST <= address.0) & (address.0 <= CellAddress::LAST)
 }
 
 pub fn presets_sound(presets: Presets) -> bool

@@ -7,20 +7,16 @@ use units::Milliseconds;
 use units::Steps;
 
 // 01: "a rest is within 33,554,428 either way".
-const MOST_STEPS: i32 = 33_554_428;
-
-const MOST_MILLISECONDS: u32 = 33_554_428;
-
 pub fn steps_rest(n: Steps) -> bool
     ensures { λ r. ⌜ r ≡ stepsRest n ⌝ }
 {
-    (-MOST_STEPS <= n.0) & (n.0 <= MOST_STEPS) & !n.is_zero()
+    (-Steps::REST_LIMIT <= n.0) & (n.0 <= Steps::REST_LIMIT) & !n.is_zero()
 }
 
 pub fn time_rest(n: Milliseconds) -> bool
     ensures { λ r. ⌜ r ≡ timeRest n ⌝ }
 {
-    (1 <= n.0) & (n.0 <= MOST_MILLISECONDS)
+    (1 <= n.0) & (n.0 <= Milliseconds::REST_LIMIT)
 }
 
 pub fn is_nothing(remaining: Remaining) -> bool

@@ -63,7 +63,7 @@ fn run_sound(instruction: Instruction, remaining: Remaining, mark: bool) -> bool
         Motion::IndexedRun => is_steps(remaining) & paced,
         Motion::FreeRun => is_nothing(remaining) & paced,
         Motion::SearchRun => is_nothing(remaining) & paced,
-        Motion::StoppedRun => is_nothing(remaining) & paced,
+        Motion::DelayedStopRun => is_nothing(remaining) & paced,
     }
 }
 
@@ -78,7 +78,7 @@ fn braking_sound(instruction: Instruction, remaining: Remaining, mark: bool) -> 
         Motion::IndexedRun => false,
         Motion::FreeRun => false,
         Motion::SearchRun => false,
-        Motion::StoppedRun => is_steps_along(profile.backward, remaining) & mark,
+        Motion::DelayedStopRun => is_steps_along(profile.backward, remaining) & mark,
     }
 }
 
@@ -93,7 +93,7 @@ fn slowing_sound(instruction: Instruction, remaining: Remaining) -> bool
         Motion::IndexedRun => false,
         Motion::FreeRun => (profile.ramp != 0) & is_nothing(remaining),
         Motion::SearchRun => is_nothing(remaining),
-        Motion::StoppedRun => false,
+        Motion::DelayedStopRun => false,
     }
 }
 
@@ -107,7 +107,7 @@ fn emergency_rest(profile: Profile, remaining: Remaining) -> bool
         Motion::IndexedRun => is_steps(remaining),
         Motion::FreeRun => is_nothing(remaining),
         Motion::SearchRun => is_nothing(remaining),
-        Motion::StoppedRun => {
+        Motion::DelayedStopRun => {
             is_nothing(remaining) | is_steps_along(profile.backward, remaining)
         }
     }
@@ -133,7 +133,7 @@ fn back_off_sound(instruction: Instruction, remaining: Remaining, mark: bool) ->
         Motion::IndexedRun => false,
         Motion::FreeRun => false,
         Motion::SearchRun => is_nothing(remaining) & !mark,
-        Motion::StoppedRun => false,
+        Motion::DelayedStopRun => false,
     }
 }
 

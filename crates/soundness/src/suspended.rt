@@ -25,7 +25,7 @@ fn is_indexed(instruction: Instruction) -> bool
         Motion::IndexedRun => true,
         Motion::FreeRun => false,
         Motion::SearchRun => false,
-        Motion::StoppedRun => false,
+        Motion::DelayedStopRun => false,
     }
 }
 

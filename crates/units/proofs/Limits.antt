@@ -1,19 +1,21 @@
--- How large steps times m and a shift are, and which shifts are steps.
+-- How large steps times m and a shift are, which shifts are steps, and the test of a limit either way as the code makes it.
 -- Assumes nothing.
 use Prim.Native.Nat.{ℕ, zero, suc, _*_, _≤_}
 use native.Mathlib.Nat.{mul-le-mul-left}
 use native.Mathlib.Omega.{arith}
-use mathlib.Core.Path.{_≡_, refl}
-use mathlib.Core.Bool.{Bool, true, false}
-use lib.Dec.{lit<, lit≤}
+use mathlib.Core.Path.{_≡_, refl, sym, _∙_}
+use mathlib.Core.Bool.{Bool, true, false, _&&_}
+use lib.Dec.{leb, leb·zero, leb·suc-zero, leb·suc-suc, lit<, lit≤}
 use lib.IntN.{ℤ, pos, negsuc, negℤ, natAbs, _-ℤ_}
-use lib.Signed.{ltZ, natAbs-le}
+use lib.Signed.{ltZ, leZ, natAbs-le}
 use mir.Syntax.{w32, w64}
-use mir.Val.{Fits, SFits}
-use mir.Facts.{sfits-toZ}
+use mir.Val.{toZ, ofZ, Fits, SFits}
+use mir.Facts.{sfits-toZ, toZ-ofZ}
 use borrow.Author.Tests.{ltb-false}
 use Rattle.laws.specs.Tests.{choose, either}
 use Rattle.laws.proofs.Tests.{either-left, either-right}
+use Rattle.laws.proofs.Joins.{and-both, both-end}
+use Rattle.units.specs.Limits.{stepLimit, restLimit}
 use Rattle.units.specs.declared.Steps.{Steps}
 use Rattle.units.specs.declared.position.Position.{Position}
 use Rattle.units.specs.Position.{numberOf}
@@ -31,7 +33,7 @@ unfolding scaledOf
 natAbs-scaled n x4 = rw (natAbs-mul (n .0) (multiplierOf x4)) (mul-le-mul-left (natAbs (n .0)) (natAbs-multiplier x4))
 
 -- 01: "n is ±nnn within 8,388,607 each way". Such steps times m are steps again.
-pub within-scaled : (n : Steps) (x4 : Bool) → natAbs (n .0) ≤ 8388607 → Within (scaledOf n x4)
+pub within-scaled : (n : Steps) (x4 : Bool) → natAbs (n .0) ≤ stepLimit → Within (scaledOf n x4)
 within-scaled n x4 h = record { within = omega (arith, natAbs-scaled n x4) }
 
 -- nothing overflows: every i32 times m, and less every position, is an i64
@@ -48,18 +50,18 @@ sfits-shift n x4 p s f =
 
 -- a shift within the limit fits
 pub sfits-within : {z : ℤ} → Within z → SFits w32 z
-sfits-within {z} w = sfits-natAbs w32 z 33554428 (w .within) (lit< tt)
+sfits-within {z} w = sfits-natAbs w32 z restLimit (w .within) (lit< tt)
 
 -- the limit times m, and the same back
 within-limit : (x4 : Bool) → Within (scaledOf limit x4)
 within-limit x4 = within-scaled limit x4 (lit≤ tt)
 
 pub sfits-limit : (x4 : Bool) → SFits w64 (scaledOf limit x4)
-sfits-limit x4 = sfits-natAbs w64 (scaledOf limit x4) 33554428 (within-limit x4 .within) (lit< tt)
+sfits-limit x4 = sfits-natAbs w64 (scaledOf limit x4) restLimit (within-limit x4 .within) (lit< tt)
 
 pub sfits-limit-back : (x4 : Bool) → SFits w64 (negℤ (scaledOf limit x4))
 sfits-limit-back x4 =
-    sfits-natAbs w64 (negℤ (scaledOf limit x4)) 33554428 (rw (natAbs-neg (scaledOf limit x4)) (within-limit x4 .within)) (lit< tt)
+    sfits-natAbs w64 (negℤ (scaledOf limit x4)) restLimit (rw (natAbs-neg (scaledOf limit x4)) (within-limit x4 .within)) (lit< tt)
 
 below-neg : (n k : ℕ) → ltZ (negsuc n) (negℤ (pos k)) ≡ false → suc n ≤ k
 below-neg n zero t = let e : _≡_ {A = ℕ} 0 1 = cc in absurd (omega arith)
@@ -73,5 +75,17 @@ natAbs-between (negsuc n) k t = below-neg n k (either-right _ _ t)
 -- a shift that is not beyond is within
 pub within-not-beyond : (z : ℤ) (x4 : Bool) → isBeyondOf z x4 ≡ false → Within z
 unfolding isBeyondOf scaledOf multiplierOf choose
-within-not-beyond z true t = record { within = natAbs-between z 33554428 t }
-within-not-beyond z false t = record { within = omega (arith, natAbs-between z 8388607 t) }
+within-not-beyond z true t = record { within = natAbs-between z restLimit t }
+within-not-beyond z false t = record { within = omega (arith, natAbs-between z stepLimit t) }
+
+-- neither below −k nor above k
+between-within : (k : ℕ) (z : ℤ) → leZ (negℤ (pos k)) z && leZ z (pos k) ≡ leb (natAbs z) k
+between-within zero (pos n) = simp leb·zero
+between-within zero (negsuc n) = sym (leb·suc-zero n)
+between-within (suc k) (pos n) = refl
+between-within (suc k) (negsuc n) = and-both _ true ∙ both-end _ ∙ sym (leb·suc-suc n k)
+
+-- the same, of a number that was read back from its bits
+pub between-within-bits : (k : ℕ) (z : ℤ) → SFits w32 z →
+    leZ (negℤ (pos k)) (toZ w32 (ofZ w32 z)) && leZ (toZ w32 (ofZ w32 z)) (pos k) ≡ leb (natAbs z) k
+between-within-bits k z s = rw (toZ-ofZ s) (between-within k z)

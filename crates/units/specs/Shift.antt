@@ -5,6 +5,7 @@ use mathlib.Core.Bool.{Bool}
 use lib.Signed.{ltZ}
 use lib.IntN.{ℤ, pos, negℤ, natAbs, _-ℤ_, _*ℤ_}
 use Rattle.laws.specs.Tests.{choose, either}
+use Rattle.units.specs.Limits.{stepLimit, restLimit}
 use Rattle.units.specs.declared.Steps.{Steps}
 use Rattle.units.specs.declared.position.Position.{Position}
 use Rattle.units.specs.Position.{numberOf}
@@ -21,9 +22,9 @@ scaledOf n x4 = n .0 *ℤ multiplierOf x4
 unfoldable pub shiftOf : Steps → Bool → Bool → Position → ℤ
 shiftOf n x4 absolute p = choose absolute (scaledOf n x4 -ℤ numberOf p) (scaledOf n x4)
 
--- 01: "n is ±nnn within 8,388,607 each way"
+-- the limit of steps, forward
 abbrev pub limit : Steps
-limit = record { 0 = pos 8388607 }
+limit = record { 0 = pos stepLimit }
 
 -- 01: "beyond 8,388,607×m either way"
 unfoldable pub isBeyondOf : ℤ → Bool → Bool
@@ -31,4 +32,4 @@ isBeyondOf shift x4 = either (ltZ (scaledOf limit x4) shift) (ltZ shift (negℤ 
 
 -- 01: "a rest is within 33,554,428 either way"
 pub record Within (z : ℤ) : Type 0 where
-  pub within : natAbs z ≤ 33554428
+  pub within : natAbs z ≤ restLimit

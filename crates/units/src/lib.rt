@@ -5,10 +5,12 @@ ghost use mathlib.Core.Path.{_≡_};
 
 mod bits;
 mod position;
+mod ranges;
 mod remaining;
 mod shift;
 
 pub use position::Position;
+pub use ranges::LOOP_LIMIT;
 pub use shift::is_beyond;
 pub use shift::steps_of;
 
@@ -22,6 +24,11 @@ pub struct DriveAddress(pub u8);
 pub struct CellAddress(pub u8);
 
 impl CellAddress {
+    // The first and the last program cell.
+    pub const FIRST: u8 = 100;
+
+    pub const LAST: u8 = 230;
+
     // The place of the cell in the memory; of 000, which is no cell, the first.
     pub fn place(self) -> usize
         ensures { λ r. ⌜ r ≡ self .0 - 100 ⌝ }

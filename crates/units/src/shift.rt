@@ -5,9 +5,6 @@ use crate::Position;
 use crate::Steps;
 
 impl Steps {
-    // The most steps that an instruction can name, either way.
-    pub const LIMIT: i32 = 8_388_607;
-
     // n times m: m is 4 for x4, else 1.
     pub fn scaled(self, x4: bool) -> i64
         ensures { λ r. ⌜ r ≡ scaledOf self x4 ⌝ }

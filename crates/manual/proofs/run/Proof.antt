@@ -15,6 +15,9 @@ Inv-loop script bench₀ seen₀ number₀ at₀ bench seen number at = (at ≤ 
 abbrev μ-loop : tie.MeasureT-loop
 μ-loop script bench₀ seen₀ number₀ at₀ bench seen number at = length script - at
 
+new-score-requires : tie.Need-new-score-requires Inv-loop μ-loop
+new-score-requires c κs = tt
+
 fresh-bench-requires : tie.Need-fresh-bench-requires Inv-loop μ-loop
 fresh-bench-requires c κs = tt
 
@@ -63,6 +66,7 @@ run-spec =
     (tie.spec
     Inv-loop
     μ-loop
+    new-score-requires
     fresh-bench-requires
     loop-holds
     find-requires

@@ -1,6 +1,6 @@
 -- `put_answer` meets its contract: each arm is a clause of the definition.
 -- Assumes nothing.
-use Rattle.replies.specs.Answers.{answerAt}
+use Rattle.machine.specs.Answers.{answerAt}
 use Rattle.replies.proofs.Commands.{command-ready, preset-asked, input-asked, output-asked, cell-asked, fault-asked, suspended-asked}
 use Rattle.replies.proofs.Commands.{put-told}
 use Rattle.replies.proofs.put_answer.Statement.{statement}
@@ -49,18 +49,18 @@ put-answer-spec =
     (λ c. put-told _ _ _ (c .before .before .before .before .enum-told .given .1) (c .before .before .put-accepted .ensures))
     (λ c. c .before .before .put-accepted2 .kept .0)
     (λ c. put-told _ _ _ (c .before .before .before .before .enum-told2 .given .1) (c .before .before .put-accepted2 .ensures))
-    (λ c. c .before .before .put-started .kept .0)
-    (λ c. put-told _ _ _ (c .before .before .before .before .enum-told3 .given .1) (c .before .before .put-started .ensures))
     (λ c. c .before .before .put-accepted3 .kept .0)
-    (λ c. put-told _ _ _ (c .before .before .before .before .enum-told4 .given .1) (c .before .before .put-accepted3 .ensures))
+    (λ c. put-told _ _ _ (c .before .before .before .before .enum-told3 .given .1) (c .before .before .put-accepted3 .ensures))
     (λ c. c .before .before .put-accepted4 .kept .0)
-    (λ c. put-told _ _ _ (c .before .before .before .before .enum-told5 .given .1) (c .before .before .put-accepted4 .ensures))
+    (λ c. put-told _ _ _ (c .before .before .before .before .enum-told4 .given .1) (c .before .before .put-accepted4 .ensures))
     (λ c. c .before .before .put-accepted5 .kept .0)
-    (λ c. put-told _ _ _ (c .before .before .before .before .enum-told6 .given .1) (c .before .before .put-accepted5 .ensures))
+    (λ c. put-told _ _ _ (c .before .before .before .before .enum-told5 .given .1) (c .before .before .put-accepted5 .ensures))
     (λ c. c .before .before .put-accepted6 .kept .0)
-    (λ c. put-told _ _ _ (c .before .before .before .before .enum-told7 .given .1) (c .before .before .put-accepted6 .ensures))
+    (λ c. put-told _ _ _ (c .before .before .before .before .enum-told6 .given .1) (c .before .before .put-accepted6 .ensures))
     (λ c. c .before .before .put-accepted7 .kept .0)
-    (λ c. put-told _ _ _ (c .before .before .before .before .enum-told8 .given .1) (c .before .before .put-accepted7 .ensures))
+    (λ c. put-told _ _ _ (c .before .before .before .before .enum-told7 .given .1) (c .before .before .put-accepted7 .ensures))
+    (λ c. c .before .before .put-accepted8 .kept .0)
+    (λ c. put-told _ _ _ (c .before .before .before .before .enum-told8 .given .1) (c .before .before .put-accepted8 .ensures))
     (λ c. c .before .before .put-position .kept .0)
     (λ c. put-told _ _ _ (c .before .before .before .before .enum-told9 .given .1) (c .before .before .put-position .ensures))
     (λ c. c .before .before .put-preset .kept .0)

@@ -8,7 +8,8 @@ use Rattle.laws.proofs.Tests.{choose-true, choose-false}
 use Rattle.machine.specs.Operations.{made}
 use Rattle.machine.specs.Operations.Made.{Drive}
 use Rattle.machine.specs.declared.Machine.{Machine}
-use Rattle.drive.specs.Results.{numberOf, madeAs}
+use Rattle.operations.specs.Results.{numberOf}
+use Rattle.drive.specs.Results.{madeAs}
 use Rattle.drive.proofs.Drive.fresh.Statement.{statement}
 use Rattle.drive.proofs.Drive.fresh.Tie as tie
 

@@ -1,22 +1,33 @@
--- `Drive::halted` meets its contract, by the tests that it makes.
+-- `Drive::halted` meets its contract: by the check, and by the operation on a sound drive.
 -- Assumes nothing.
 use mathlib.Core.Path.{sym, _∙_}
 use borrow.Author.Needs.{needs}
 use borrow.Author.Tests.{not-true, not-false}
-use Rattle.drive.specs.Results.{numberOf}
-use Rattle.drive.proofs.Applied.{unsound-refused, halted-refused, halted-taken, taken-as}
-use Rattle.drive.proofs.Reported.{halted-at}
+use Rattle.machine.specs.Calls.Call.{Halted}
+use Rattle.drive.proofs.Applied.{unsound-applied, sound-applied}
 use Rattle.drive.proofs.Drive.halted.Statement.{statement}
 use Rattle.drive.proofs.Drive.halted.Tie as tie
 
+sound-requires : tie.Need-sound-requires
+sound-requires c κs = search needs
+
+unsound-requires : tie.Need-unsound-requires
+unsound-requires c κs = search needs
+
+returns : tie.Need-returns
+returns c =
+    c .unsound .ensures ∙ sym (unsound-applied Halted _ (c .before .before .sound .ensures) (not-true _ (c .before .if1 .taken)))
+
+halted-requires : tie.Need-halted-requires
+halted-requires c κs = sym (c .before .sound .ensures) ∙ not-false _ (c .if1 .left)
+
+done-requires : tie.Need-done-requires
+done-requires c κs = search needs
+
+returns-2 : tie.Need-returns-2
+returns-2 c =
+    let sound = sound-applied Halted _ (c .before .before .before .sound .ensures) (not-false _ (c .before .before .if1 .left)) in
+    c .done .ensures ∙ (c .before .halted .ensures ∙ sym sound)
+
 pub halted-spec : {M : Type 1} → statement M
-unfolding numberOf
-halted-spec =
-    tie.close
-    (tie.spec (λ c κs. search needs) (λ c κs. search needs)
-    (λ c. c .refused .ensures ∙ sym (unsound-refused _ _ (sym (c .before .before .sound .ensures) ∙ not-true (c .before .before .sound .result) (c .before .if1 .taken)))) (λ c κs. search needs) (λ c κs. search needs)
-    (λ c. c .refused2 .ensures ∙ sym (halted-refused _ (sym (c .before .before .before .before .sound .ensures) ∙ not-false (c .before .before .before .before .sound .result) (c .before .before .before .if1 .left)) (sym (c .before .before .takes-halted .ensures) ∙ not-true (c .before .before .takes-halted .result) (c .before .if2 .taken))))
-    (λ c κs. sym (c .before .before .before .sound .ensures) ∙ not-false (c .before .before .before .sound .result) (c .before .before .if1 .left))
-    (λ c κs. search needs) (λ c κs. search needs) (λ c κs. search needs)
-    (λ c. taken-as _ _ (halted-taken _ (sym (c .before .before .before .before .before .before .before .sound .ensures) ∙ not-false (c .before .before .before .before .before .before .before .sound .result) (c .before .before .before .before .before .before .if1 .left)) (sym (c .before .before .before .before .before .takes-halted .ensures) ∙ not-false (c .before .before .before .before .before .takes-halted .result) (c .before .before .before .before .if2 .left))) (c .accepted .ensures)
-    (halted-at _ _ (c .before .before .before .present-cell .ensures .0) (c .before .before .profile .ensures) (c .before .halted .ensures))))
+halted-spec = tie.close (tie.spec sound-requires unsound-requires returns halted-requires done-requires returns-2)

@@ -1,4 +1,4 @@
--- `Drive::order` meets its contract, by the test that it makes.
+-- `Drive::order` meets its contract: by the check, and by the order of a sound drive.
 -- Assumes nothing.
 use mathlib.Core.Path.{sym, ap, _∙_}
 use borrow.Author.Needs.{needs}
@@ -7,17 +7,26 @@ use Rattle.laws.proofs.Tests.{choose-true, choose-false}
 use Rattle.machine.specs.Operations.{ordered}
 use Rattle.machine.specs.Operations.Ordered.{Order}
 use Rattle.machine.specs.declared.answers.BoardOrder.{BoardOrder}
-use Rattle.drive.specs.Results.{numberOf, orderedAs}
+use Rattle.operations.specs.Results.{numberOf}
+use Rattle.drive.specs.Results.{orderedAs}
 use Rattle.drive.proofs.Drive.order.Statement.{statement}
 use Rattle.drive.proofs.Drive.order.Tie as tie
 
+sound-requires : tie.Need-sound-requires
+sound-requires c κs = search needs
+
+returns : tie.Need-returns
+unfolding numberOf orderedAs ordered
+returns c = sym (choose-false _ _ _ (sym (c .before .sound .ensures) ∙ not-true _ (c .if1 .taken)))
+
+order-requires : tie.Need-order-requires
+order-requires c κs = sym (c .before .sound .ensures) ∙ not-false _ (c .if1 .left)
+
+returns-2 : tie.Need-returns-2
+unfolding orderedAs ordered
+returns-2 c =
+    let sound = sym (c .before .before .sound .ensures) ∙ not-false _ (c .before .if1 .left) in
+    ap (λ (o : BoardOrder). Order o) (c .order .ensures) ∙ sym (choose-true _ _ _ sound)
+
 pub order-spec : {M : Type 1} → statement M
-unfolding ordered numberOf orderedAs
-order-spec =
-    tie.close
-    (tie.spec (λ c κs. search needs)
-    (λ c. sym (choose-false _ _ _ (sym (c .before .sound .ensures) ∙ not-true (c .before .sound .result) (c .if1 .taken))))
-    (λ c κs. sym (c .before .sound .ensures) ∙ not-false (c .before .sound .result) (c .if1 .left))
-    (λ c κs. c .present-cell .ensures .1)
-    (λ c. ap (λ (o : BoardOrder). Order o) (c .board-order .ensures _ (c .before .present-cell .ensures .0))
-    ∙ sym (choose-true _ _ _ (sym (c .before .before .before .sound .ensures) ∙ not-false (c .before .before .before .sound .result) (c .before .before .if1 .left)))))
+order-spec = tie.close (tie.spec sound-requires returns order-requires returns-2)

@@ -1,10 +1,10 @@
 -- `taking::recover` meets its contract: an empty record, and a cell that is resumed.
 -- Assumes nothing.
-use mathlib.Core.Path.{sym, _∙_}
+use mathlib.Core.Path.{refl, sym, _∙_}
 use borrow.Author.Needs.{needs}
 use borrow.Author.Tests.{eq-eqb, ne-eqb}
 use Rattle.laws.proofs.Tests.{choose-true, choose-false}
-use Rattle.machine.specs.Taking.{recoverWith}
+use Rattle.machine.specs.Taking.{recover}
 use Rattle.execution.proofs.taking.recover.Statement.{statement}
 use Rattle.execution.proofs.taking.recover.Tie as tie
 
@@ -12,17 +12,17 @@ stopped-requires : tie.Need-stopped-requires
 stopped-requires c κs = search needs
 
 returns : tie.Need-returns
-unfolding recoverWith
+unfolding recover
 returns c = c .stopped .ensures ∙ sym (choose-true _ _ _ (eq-eqb _ _ (c .before .if1 .taken)))
 
 restored-requires : tie.Need-restored-requires
 restored-requires c κs = search needs
 
 resume-requires : tie.Need-resume-requires
-resume-requires c κs = search needs
+resume-requires c κs = (c .before .before .before .before .pre, rw (c .restored .ensures) refl)
 
 returns-2 : tie.Need-returns-2
-unfolding recoverWith
+unfolding recover
 returns-2 c = (rw (c .before .restored .ensures) at (c .resume .ensures)) ∙ sym (choose-false _ _ _ (ne-eqb _ _ (c .before .before .if1 .left)))
 
 pub recover-spec : {M : Type 1} → statement M

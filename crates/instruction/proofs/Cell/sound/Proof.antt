@@ -6,7 +6,7 @@ use Rattle.laws.specs.Tests.{choose}
 use Rattle.units.specs.declared.CellAddress.{CellAddress}
 use Rattle.instruction.specs.declared.Instruction.{Instruction}
 use Rattle.instruction.specs.Codes.{codeOf}
-use Rattle.instruction.specs.Formats.{fieldsIn, fieldsOf}
+use Rattle.format.specs.Formats.{fieldsIn, fieldsOf}
 use Rattle.instruction.specs.Numbers.{travelBackward, travelX4, numbersWith}
 use Rattle.instruction.specs.Soundness.{canonical, cellSound}
 use Rattle.instruction.proofs.TestsFields.{settable-valid, condition-valid, count-valid, upto-valid}

@@ -4,6 +4,7 @@ use mathlib.Core.Path.{_∙_, ap, sym}
 use borrow.Author.Needs.{needs}
 use borrow.Author.Tests.{not-true, not-false}
 use Rattle.instruction.specs.declared.text.Sent.the-variants.{Held}
+use Rattle.format.proofs.Entries.{few-format}
 use Rattle.instruction.proofs.TextSteps.{few-code, code-read, code-wrong, code-unknown, code-known, fields-wrong, fields-held}
 use Rattle.instruction.proofs.text.read_cell.Statement.{statement}
 use Rattle.instruction.proofs.text.read_cell.Tie as tie
@@ -33,7 +34,7 @@ returns-2 c =
     ∙ code-unknown _ _ _ (not-false _ (f .before .before .if1 .left)) (f .format-of .ensures) (not-true _ (c .if2 .taken)))
 
 parse-all-requires : tie.Need-parse-all-requires
-parse-all-requires c κs = search needs
+parse-all-requires c κs = few-format _ (c .before .before .before .format-of .ensures)
 
 returns-3 : tie.Need-returns-3
 returns-3 c =

@@ -12,9 +12,8 @@ use Rattle.fields.specs.declared.kinds.Kind.{Kind}
 use Rattle.fields.specs.declared.kinds.Kind.the-variants.{Next}
 use Rattle.fields.specs.declared.rows.Row.{Row}
 use Rattle.fields.specs.declared.rows.Parsed.{Parsed}
-use Rattle.instruction.specs.Formats.{sixKinds}
-use Rattle.instruction.specs.Numbers.{byteOf}
-use Rattle.machine.specs.Commands.{fieldsAt, onFields, presetKind, presetIn}
+use Rattle.format.specs.Formats.{sixKinds}
+use Rattle.machine.specs.Commands.{fieldsAt, onFields, presetKind, presetWith, presetIn}
 use Rattle.machine.specs.declared.commands.Command.the-variants.{SetPreset}
 use Rattle.parser.proofs.Reading.{few, first-of, whole-of, fields-wrong, fields-right}
 use borrow.Author.Needs.{needs}
@@ -25,11 +24,11 @@ use Rattle.parser.proofs.commands.preset_in.Tie as tie
 told :
     (s : List ℕ) {r x t : Row} {k : Kind} {p v : Parsed} → r ≡ x → p ≡ parseFields (kinds r) s fieldsAt → p .ok ≡ true →
     k ≡ presetKind (getD (p .values) 0 0) → t ≡ sixKinds 1 k Next Next Next Next Next → v ≡ parseAll (kinds t) s (p .at) →
-    onFields v (λ vs. SetPreset (byteOf (getD (p .values) 0 0)) (byteOf (getD vs 0 0))) ≡ presetIn s (parseFields (kinds x) s fieldsAt)
+    onFields v (λ vs. SetPreset (presetWith (getD (p .values) 0 0) (getD vs 0 0))) ≡ presetIn s (parseFields (kinds x) s fieldsAt)
 unfolding presetIn kinds
 told s {x = x} {p = p} e q o k f g =
     sym (ap (presetIn s) (first-of s fieldsAt {x = x} e q) ∙ fields-right p _ o
-    ∙ ap (λ y. onFields y (λ vs. SetPreset (byteOf (getD (p .values) 0 0)) (byteOf (getD vs 0 0))))
+    ∙ ap (λ y. onFields y (λ vs. SetPreset (presetWith (getD (p .values) 0 0) (getD vs 0 0))))
     (ap (λ j. parseAll (j ∷ []) s (p .at)) (sym k) ∙ whole-of s (p .at) f g))
 
 row-requires : tie.Need-row-requires
@@ -67,24 +66,22 @@ returns-2 c =
     ∙ told _ (p .before .row .ensures) (p .parse-fields .ensures) (not-false _ (i .if1 .left))
     (k .preset-kind .ensures) (v .before .row2 .ensures) (v .parse-all .ensures)
 
-cast-t16 : tie.Need-cast-t16
-cast-t16 c = search needs
+element-copy-out-preset-with : tie.Need-element-copy-out-preset-with
+element-copy-out-preset-with c = search needs
 
-element-copy-out-t19 : tie.Need-element-copy-out-t19
-element-copy-out-t19 c = search needs
-
-cast-t21 : tie.Need-cast-t21
-cast-t21 c = search needs
+preset-with-requires : tie.Need-preset-with-requires
+preset-with-requires c κs = search needs
 
 returns-3 : tie.Need-returns-3
 unfolding kinds
 returns-3 c =
-    let j = c .before in
+    let j = c .before .before in
     let v = j .before in
     let k = v .before .before in
     let i = k .before .before in
     let p = i .before in
-    sym (fields-right _ _ (not-false _ (j .if2 .left)))
+    ap SetPreset (c .preset-with .ensures)
+    ∙ sym (fields-right _ _ (not-false _ (j .if2 .left)))
     ∙ told _ (p .before .row .ensures) (p .parse-fields .ensures) (not-false _ (i .if1 .left))
     (k .preset-kind .ensures) (v .before .row2 .ensures) (v .parse-all .ensures)
 
@@ -100,7 +97,6 @@ preset-in-spec =
     row-requires-2
     parse-all-requires
     returns-2
-    cast-t16
-    element-copy-out-t19
-    cast-t21
+    element-copy-out-preset-with
+    preset-with-requires
     returns-3)

@@ -6,10 +6,10 @@ use Rattle.replay.proofs.reading.ask_all.Statement.{statement}
 use Rattle.replay.proofs.reading.ask_all.Tie as tie
 
 abbrev Inv-loop : tie.InvT-loop
-Inv-loop asked₀ k₀ asked k = Unit {0}
+Inv-loop drive asked₀ k₀ asked k = Unit {0}
 
 abbrev μ-loop : tie.MeasureT-loop
-μ-loop asked₀ k₀ asked k = 165 - k
+μ-loop drive asked₀ k₀ asked k = 165 - k
 
 pub ask-all-spec : {M : Type 1} → statement M
 ask-all-spec =

@@ -14,6 +14,7 @@ unfolding frontOf
 put-front-spec =
     tie.close
     (tie.spec
+    (λ c. search needs)
     (λ c κs. search needs)
     (λ c. omega (arith, digits-place _ (c .before .before .put-digits .ensures)))
     (λ c. omega (arith, digits-place _ (c .before .before .put-digits .ensures)))

@@ -1,4 +1,4 @@
--- `count` is safe and ends. Invariant: no more words than one to a byte passed, and one. Measure: the bytes left.
+-- `count` is safe and ends. Invariant: no more parts than one to a byte passed, and one. Measure: the bytes left.
 -- Assumes nothing.
 use Prim.Native.Nat.{_+_, _≤_, _-_}
 use native.Mathlib.Omega.{arith}
@@ -9,10 +9,10 @@ use Rattle.script.proofs.words.count.Statement.{statement}
 use Rattle.script.proofs.words.count.Tie as tie
 
 abbrev Inv-loop : tie.InvT-loop
-Inv-loop line n₀ i₀ n i = (i ≤ length line) × (n ≤ i + 1)
+Inv-loop text separator n₀ i₀ n i = (i ≤ length text) × (n ≤ i + 1)
 
 abbrev μ-loop : tie.MeasureT-loop
-μ-loop line n₀ i₀ n i = length line - i
+μ-loop text separator n₀ i₀ n i = length text - i
 
 pub count-spec : {M : Type 1} → statement M
 count-spec =

@@ -9,7 +9,7 @@ use Rattle.laws.proofs.Telling.{told}
 use Rattle.machine.specs.Commands.{placed}
 use Rattle.machine.specs.declared.commands.Command.{Command}
 use Rattle.machine.specs.declared.commands.Command.the-variants.{SetOutput}
-use Rattle.serial.specs.Acting.{actedAt}
+use Rattle.machine.specs.Acting.{actedAt}
 use Rattle.serial.proofs.acting.acted.Statement.{statement}
 use Rattle.serial.proofs.acting.acted.Tie as tie
 
@@ -55,7 +55,7 @@ acted-spec =
     (λ c. let a = c .before .before .before .before .args in
     told (λ (x : Command). actedAt x (a .state) (a .cell)) (c .before .before .command2 .given .1) (c .preset-stored .ensures))
     (λ c. let a = c .before .before .before .before .args in
-    told (λ (x : Command). actedAt x (a .state) (a .cell)) (c .before .before .command3 .given .1) (c .started-by .ensures))
+    told (λ (x : Command). actedAt x (a .state) (a .cell)) (c .before .before .command3 .given .1) (c .started .ensures))
     (λ c. let a = c .before .before .before .args in
     told (λ (x : Command). actedAt x (a .state) (a .cell)) (c .before .enum-told .given .1) (c .emergency-stop .ensures))
     (λ c. let a = c .before .before .before .args in

@@ -3,7 +3,7 @@
 use mathlib.Core.Path.{refl}
 use Rattle.laws.proofs.Telling.{told}
 use Rattle.machine.specs.declared.commands.Command.{Command}
-use Rattle.serial.specs.Acting.{named}
+use Rattle.machine.specs.Acting.{named}
 use Rattle.serial.proofs.acting.named.Statement.{statement}
 use Rattle.serial.proofs.acting.named.Tie as tie
 

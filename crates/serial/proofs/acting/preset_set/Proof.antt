@@ -1,34 +1,22 @@
--- `preset_set` meets its contract: each test is the definition's.
+-- `preset_set` meets its contract: each arm is a clause of the definition.
 -- Assumes nothing.
-use borrow.Author.Tests.{eq-eqb, ne-eqb}
-use Rattle.laws.specs.Tests.{choose}
-use Rattle.machine.specs.Strings.{presetSet}
+use Rattle.machine.specs.Acting.{presetSet}
 use Rattle.serial.proofs.acting.preset_set.Statement.{statement}
 use Rattle.serial.proofs.acting.preset_set.Tie as tie
 
 pub preset-set-spec : {M : Type 1} → statement M
-unfolding presetSet choose
+unfolding presetSet
 preset-set-spec =
     tie.close
     (tie.spec
-    (λ c. simp (eq-eqb _ _ (c .before .if1 .taken)))
-    (λ c. simp (ne-eqb _ _ (c .before .if1 .left), eq-eqb _ _ (c .if2 .taken)))
+    (λ c. c .match .keys1)
+    (λ c. c .match .keys2)
+    (λ c. c .match .keys3)
     (λ c κs. tt)
-    (λ c. simp (
-      ne-eqb _ _ (c .before .before .before .if1 .left),
-      ne-eqb _ _ (c .before .before .if2 .left),
-      eq-eqb _ _ (c .before .if3 .taken),
-      c .with-resolution .ensures,
-    ))
-    (λ c. simp (
-      ne-eqb _ _ (c .before .before .before .if1 .left),
-      ne-eqb _ _ (c .before .before .if2 .left),
-      ne-eqb _ _ (c .before .if3 .left),
-      eq-eqb _ _ (c .if4 .taken),
-    ))
-    (λ c. simp (
-      ne-eqb _ _ (c .before .before .before .if1 .left),
-      ne-eqb _ _ (c .before .before .if2 .left),
-      ne-eqb _ _ (c .before .if3 .left),
-      ne-eqb _ _ (c .if4 .left),
-    )))
+    (λ c. c .match .keys4)
+    (λ c. c .match .keys5)
+    (λ c. rw (c .before .value .given .1))
+    (λ c. rw (c .before .value2 .given .1))
+    (λ c. rw (c .before .before .value3 .given .1) (c .with-resolution .ensures))
+    (λ c. rw (c .before .value4 .given .1))
+    (λ c. rw (c .before .value5 .given .1)))

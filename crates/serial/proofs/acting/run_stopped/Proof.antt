@@ -5,13 +5,13 @@ use mathlib.Core.Bool.{true}
 use borrow.Author.Tests.{le-leb}
 use Rattle.instruction.specs.Soundness.{stepsWithin}
 use Rattle.instruction.specs.declared.run.Profile.{Profile}
-use Rattle.machine.specs.Stopping.{freeRunStopIn}
+use Rattle.machine.specs.Stopping.{freeRunStopIn, freeRunStopAt}
 use Rattle.machine.proofs.Cells.{run-sound}
 use Rattle.serial.proofs.acting.run_stopped.Statement.{statement}
 use Rattle.serial.proofs.acting.run_stopped.Tie as tie
 
 pub run-stopped-spec : {M : Type 1} → statement M
-unfolding stepsWithin
+unfolding stepsWithin freeRunStopAt
 run-stopped-spec =
     tie.close
     (tie.spec

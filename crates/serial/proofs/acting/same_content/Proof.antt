@@ -6,7 +6,7 @@ use mathlib.Core.Path.{_≡_, refl, sym, _∙_}
 use lib.ListN.{length, drop}
 use borrow.Author.Needs.{needs}
 use Rattle.laws.specs.Tests.{both}
-use Rattle.machine.specs.Strings.{sameNumbers}
+use Rattle.machine.specs.Acting.{sameNumbers}
 use Rattle.serial.proofs.Content.{same-turn, same-end, same-whole}
 use Rattle.serial.proofs.acting.same_content.Statement.{statement}
 use Rattle.serial.proofs.acting.same_content.Tie as tie

@@ -3,12 +3,12 @@
 use mathlib.Core.Path.{sym, _∙_}
 use borrow.Author.Tests.{eq-eqb, ne-eqb}
 use Rattle.laws.specs.Tests.{choose, either}
-use Rattle.serial.specs.Acting.{storedState}
+use Rattle.machine.specs.Acting.{keepsSuspended, storedState}
 use Rattle.serial.proofs.acting.stored.Statement.{statement}
 use Rattle.serial.proofs.acting.stored.Tie as tie
 
 pub stored-spec : {M : Type 1} → statement M
-unfolding storedState choose either
+unfolding storedState keepsSuspended choose either
 stored-spec =
     tie.close
     (tie.spec

@@ -1,9 +1,10 @@
 -- `addressed` meets its contract: the tests, in turn, are the definition's.
 -- Assumes nothing.
-use mathlib.Core.Path.{ap, _∙_}
+use borrow.Author.Needs.{needs}
+use borrow.Author.Tests.{not-true, not-false}
 use Rattle.laws.specs.Tests.{both}
-use Rattle.laws.proofs.Joins.{or-either, fails, passes}
-use Rattle.machine.specs.Strings.{isDigit, addressed}
+use Rattle.laws.proofs.Joins.{or-either}
+use Rattle.machine.specs.Strings.{addressed}
 use Rattle.serial.proofs.hearing.addressed.Statement.{statement}
 use Rattle.serial.proofs.hearing.addressed.Tie as tie
 
@@ -12,21 +13,8 @@ unfolding addressed both
 addressed-spec =
     tie.close
     (tie.spec
+    (λ c. simp (not-true (c .before .before .args .header .digits) (c .if1 .taken)))
+    (λ c. search needs)
     (λ c κs. tt)
-    (λ c κs. tt)
-    (λ c. simp (fails (c .before .is-digit .ensures ∙ ap isDigit (c .before .before .byte-at .ensures)) (c .if1 .taken)))
-    (λ c κs. tt)
-    (λ c κs. tt)
-    (λ c. let first = c .before .before .before in
-    simp (
-      passes (first .before .is-digit .ensures ∙ ap isDigit (first .before .before .byte-at .ensures)) (first .if1 .left),
-      fails (c .before .is-digit2 .ensures ∙ ap isDigit (c .before .before .byte-at2 .ensures)) (c .if2 .taken),
-    ))
-    (λ c κs. tt)
-    (λ c. let second = c .before in
-    let first = second .before .before .before in
-    simp (
-      passes (first .before .is-digit .ensures ∙ ap isDigit (first .before .before .byte-at .ensures)) (first .if1 .left),
-      passes (second .before .is-digit2 .ensures ∙ ap isDigit (second .before .before .byte-at2 .ensures)) (second .if2 .left),
-      c .string-address .ensures,
-    ) (or-either _ _)))
+    (λ c. let t = c .before .before .before in
+    simp (not-false (t .before .before .args .header .digits) (t .if1 .left), c .to-every .ensures) (or-either _ _)))

@@ -12,6 +12,6 @@ free-spec =
     tie.close
     (tie.spec
     (λ c κs. tt)
-    (λ c. λ s e. simp (sym (c .before .idle .ensures) ∙ c .if1 .taken))
+    (λ c. simp (sym (c .before .idle .ensures) ∙ c .if1 .taken))
     (λ c κs. tt)
-    (λ c. λ s e. simp (sym (c .before .before .idle .ensures) ∙ c .before .if1 .left) (c .is-stop .ensures s e)))
+    (λ c. simp (sym (c .before .before .idle .ensures) ∙ c .before .if1 .left) (c .is-stop .ensures)))

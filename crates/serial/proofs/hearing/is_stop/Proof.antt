@@ -5,4 +5,4 @@ use Rattle.serial.proofs.hearing.is_stop.Statement.{statement}
 use Rattle.serial.proofs.hearing.is_stop.Tie as tie
 
 pub is-stop-spec : {M : Type 1} → statement M
-is-stop-spec = tie.close (tie.spec (λ c. λ s e. stop-code s e))
+is-stop-spec = tie.close (tie.spec (λ c. stop-code _))

@@ -15,6 +15,4 @@ permitted-spec =
     (λ c κs. tt)
     (λ c. simp (fails (c .before .to-every .ensures) (c .if1 .taken)))
     (λ c κs. tt)
-    (λ c. let b = c .before .before .before .before in
-    permitted-code (b .args .s .now) (b .pre) (c .is-stop .ensures (b .args .s .now) (b .pre))
-    (passes (c .before .before .to-every .ensures) (c .before .if1 .left))))
+    (λ c. permitted-code _ (c .is-stop .ensures) (passes (c .before .before .before .to-every .ensures) (c .before .before .if1 .left))))

@@ -21,7 +21,7 @@ use Rattle.machine.specs.declared.commands.Command.{Command}
 use Rattle.machine.specs.declared.commands.Command.the-variants.{Store, SetPreset, Start, EmergencyStop, FreeRunStop, SetPosition, SetOutput, SetCam, AskPosition, AskPreset, AskInput, AskOutput, AskCell, AskCam, AskFault, AskSuspended, Wrong}
 use Rattle.machine.proofs.Cells.{cell-to}
 use Rattle.machine.proofs.commands.Command.{the-type}
-use Rattle.serial.specs.Acting.{cellsAfter}
+use Rattle.machine.specs.Acting.{cellsAfter}
 use Rattle.serial.proofs.telling.kept.Statement.{statement}
 use Rattle.serial.proofs.telling.kept.Tie as tie
 
@@ -37,7 +37,7 @@ others = 1 ∷ 2 ∷ 3 ∷ 4 ∷ 5 ∷ 6 ∷ 7 ∷ 8 ∷ 9 ∷ 10 ∷ 11 ∷ 12 
 cells-left : (k : Command) (cells : List Cell) → OneOf others (tagOf the-type k) → cells ≡ cellsAfter k cells
 unfolding cellsAfter others
 cells-left (Store a d) cells t = absurd (miss others 0 tt t)
-cells-left (SetPreset k v) cells t = refl
+cells-left (SetPreset v) cells t = refl
 cells-left (Start a) cells t = refl
 cells-left EmergencyStop cells t = refl
 cells-left FreeRunStop cells t = refl

@@ -6,12 +6,13 @@ use lib.ListN.{getD}
 use borrow.Author.Needs.{needs}
 use Rattle.units.specs.declared.CellAddress.{CellAddress}
 use Rattle.machine.specs.Record.{cellAt, nullCell}
+use Rattle.machine.specs.Acting.{namedCell}
 use Rattle.serial.proofs.Sound.{named-place}
 use Rattle.serial.proofs.telling.named_cell.Statement.{statement}
 use Rattle.serial.proofs.telling.named_cell.Tie as tie
 
 pub named-cell-spec : {M : Type 1} → statement M
-unfolding cellAt
+unfolding namedCell cellAt
 named-cell-spec =
     tie.close
     (tie.spec

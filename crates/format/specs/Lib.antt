@@ -1,0 +1,2 @@
+-- Formats: the fields of each code.
+pub mod Formats

@@ -1,0 +1,2 @@
+-- Bits: the bits of a word, stored one by one.
+mod Bits

@@ -1,0 +1,2 @@
+-- Cells: what a sound cell says of its numbers.
+mod Cells

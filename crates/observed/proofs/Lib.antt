@@ -1,0 +1,2 @@
+-- Texts: pieces of text gathered one after the other.
+mod Texts

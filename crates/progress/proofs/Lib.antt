@@ -1,0 +1,2 @@
+-- Passing: going on to the next cell replaces the running part.
+pub mod Passing

@@ -1,0 +1,2 @@
+-- Passing: the running part after a cell is passed.
+pub mod Passing

@@ -1,0 +1,126 @@
+// What is seen of a call, as words of its line.
+use drive::Drive;
+use drive::results::Ending;
+use drive::results::Ordered;
+use frequency::Rounded;
+use lines::gathering::front;
+use lines::gathering::gather;
+use lines::gathering::gather_number;
+use observed::orders::gather_end;
+use observed::orders::gather_order;
+use observed::outputs::gather_outputs;
+use observed::shown::gather_shown;
+use observed::sums::Sum;
+
+// A refusal's number; 0 is none.
+pub fn put_refusal(out: &mut [u8], at: usize, number: u8) -> usize {
+    if number == 0 {
+        return gather(out, at, b"-");
+    }
+    gather_number(out, at, number as u32)
+}
+
+// A refusal, and nothing beside it.
+pub fn put_plain(out: &mut [u8], at: usize, number: u8) -> usize {
+    let next = put_refusal(out, at, number);
+    gather(out, next, b" - - - -")
+}
+
+// An answer; silence has none.
+fn put_answer(out: &mut [u8], at: usize, answer: &[u8]) -> usize {
+    if answer.len() == 0 {
+        return gather(out, at, b" -");
+    }
+    let next = gather(out, at, b" ");
+    gather_shown(out, next, answer)
+}
+
+// What is seen of a string: the answer at the front of the buffer, and all of the buffer.
+pub fn put_told(out: &mut [u8], at: usize, number: u8, length: usize, buffer: &[u8]) -> usize {
+    let a = put_refusal(out, at, number);
+    let b = put_answer(out, a, front(buffer, length));
+    let c = gather(out, b, b" ");
+    let whole = Sum::new().with_all(buffer);
+    let d = gather_number(out, c, whole.sum);
+    gather(out, d, b" - -")
+}
+
+// How a wait ended, and how many milliseconds it gave.
+fn put_ending(out: &mut [u8], at: usize, ending: Ending) -> usize {
+    match ending {
+        Ending::NoWait => gather(out, at, b"- -"),
+        Ending::Ended { end, given } => {
+            let a = gather_end(out, at, end);
+            let b = gather(out, a, b" ");
+            gather_number(out, b, given.0)
+        }
+    }
+}
+
+pub fn put_waited(out: &mut [u8], at: usize, number: u8, ending: Ending) -> usize {
+    let a = put_refusal(out, at, number);
+    let b = gather(out, a, b" - - ");
+    put_ending(out, b, ending)
+}
+
+pub fn put_order(out: &mut [u8], at: usize, ordered: Ordered) -> usize {
+    match ordered {
+        Ordered::Refused(refusal) => put_plain(out, at, refusal.number()),
+        Ordered::Order(_) => gather(out, at, b"- - - - -"),
+    }
+}
+
+pub fn put_rounded(out: &mut [u8], at: usize, rounded: Rounded) -> usize {
+    match rounded {
+        Rounded::Refused(refusal) => put_plain(out, at, refusal),
+        Rounded::Value(value) => {
+            let a = gather(out, at, b"- ");
+            let b = gather_number(out, a, value as u32);
+            gather(out, b, b" - - -")
+        }
+    }
+}
+
+// The length of all answers of a reading, and their weighted sum.
+pub fn put_sum(out: &mut [u8], at: usize, sum: Sum) -> usize {
+    let a = gather(out, at, b"- ");
+    let b = gather_number(out, a, sum.count);
+    let c = gather(out, b, b":");
+    let d = gather_number(out, c, sum.sum);
+    gather(out, d, b" - - -")
+}
+
+pub fn put_verdict(out: &mut [u8], at: usize, held: bool, sound: bool) -> usize {
+    if !held {
+        return gather(out, at, b"- unrepresentable - - -");
+    }
+    if sound {
+        return gather(out, at, b"- sound - - -");
+    }
+    gather(out, at, b"- unsound - - -")
+}
+
+fn put_ordered(out: &mut [u8], at: usize, ordered: Ordered) -> usize {
+    match ordered {
+        Ordered::Refused(refusal) => {
+            let next = gather(out, at, b"!");
+            put_refusal(out, next, refusal.number())
+        }
+        Ordered::Order(order) => gather_order(out, at, order),
+    }
+}
+
+// The last two words, order and outputs, and the line's end.
+fn put_end(out: &mut [u8], at: usize, ordered: Ordered, outputs: [bool; 14]) -> usize {
+    let a = gather(out, at, b" ");
+    let b = put_ordered(out, a, ordered);
+    let c = gather(out, b, b" ");
+    let d = gather_outputs(out, c, outputs);
+    gather(out, d, b"\n")
+}
+
+pub fn put_drive(drive: Drive, out: &mut [u8], at: usize) -> usize {
+    let state = drive.machine.state;
+    let outputs = state.outputs;
+    put_end(out, at, drive.order(), outputs)
+}

@@ -1,0 +1,2 @@
+-- Parts: the first part of a text, and the next.
+mod Parts

@@ -1,0 +1,2 @@
+-- Words: text in parts.
+pub mod Words

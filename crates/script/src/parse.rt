@@ -1,0 +1,111 @@
+// A line of a script as a call.
+use crate::call::Call;
+use crate::call::Complaint;
+use crate::call::Event;
+use crate::call::Look;
+use crate::hex;
+use crate::hex::Decoded;
+use crate::numbers;
+use crate::words;
+use crate::writes;
+use decimal::parse::Number;
+
+// How many words the calls have; 0 where the letter names none.
+fn words_of(letter: u8) -> usize {
+    match letter {
+        b'M' | b'P' | b'A' | b'H' | b'B' | b'Q' => 1,
+        b'F' | b'I' | b'W' | b'R' => 2,
+        b'S' => 4,
+        _ => 0,
+    }
+}
+
+fn plain(letter: u8) -> Call {
+    match letter {
+        b'M' => Call::Happens(Event::Millisecond),
+        b'P' => Call::Happens(Event::Step),
+        b'A' => Call::Happens(Event::AtSpeed),
+        b'H' => Call::Happens(Event::Halted),
+        b'B' => Call::Looks(Look::Order),
+        _ => Call::Looks(Look::Reading),
+    }
+}
+
+fn with_number(letter: u8, number: Number) -> Call {
+    let Number::Value(v) = number else {
+        return Call::Malformed(Complaint::NotANumber);
+    };
+    match letter {
+        b'F' => Call::Fresh(v),
+        b'I' => Call::Happens(Event::Inputs(v)),
+        b'W' => Call::Wait(v),
+        _ => Call::Looks(Look::Rounding(v)),
+    }
+}
+
+fn with_buffer(length: usize, size: u32, fill: u32) -> Call {
+    if 256 < size {
+        return Call::Malformed(Complaint::NumberTooLarge);
+    }
+    if 255 < fill {
+        return Call::Malformed(Complaint::NumberTooLarge);
+    }
+    Call::Tell {
+        length,
+        size: size as usize,
+        fill: fill as u8,
+    }
+}
+
+fn string(line: &[u8], text: &mut [u8; 256]) -> Call {
+    let decoded = hex::decode(words::part(line, 1, b' '), text);
+    let Decoded::Bytes(length) = decoded else {
+        return Call::Malformed(Complaint::NotHex);
+    };
+    let second = numbers::unsigned(words::part(line, 2, b' '));
+    let Number::Value(size) = second else {
+        return Call::Malformed(Complaint::NotANumber);
+    };
+    let third = numbers::unsigned(words::part(line, 3, b' '));
+    let Number::Value(fill) = third else {
+        return Call::Malformed(Complaint::NotANumber);
+    };
+    with_buffer(length, size, fill)
+}
+
+fn of_letter(letter: u8, line: &[u8], count: usize, text: &mut [u8; 256]) -> Call {
+    let wanted = words_of(letter);
+    if wanted == 0 {
+        return Call::Malformed(Complaint::NotACall);
+    }
+    if count != wanted {
+        return Call::Malformed(Complaint::MissingOrExtraWord);
+    }
+    if wanted == 1 {
+        return plain(letter);
+    }
+    if wanted == 2 {
+        return with_number(letter, numbers::unsigned(words::part(line, 1, b' ')));
+    }
+    string(line, text)
+}
+
+// The call of a line. The bytes of a string are put into the text, the numbers of a raw cell into
+// the numbers, which are zeros before.
+pub fn parse(line: &[u8], text: &mut [u8; 256], numbers: &mut [u64; 7]) -> Call {
+    if 0 < line.len() {
+        if line[0] == b'#' {
+            return Call::Comment;
+        }
+    }
+    let count = words::count(line, b' ');
+    let first = words::part(line, 0, b' ');
+    if first.len() != 1 {
+        return Call::Malformed(Complaint::NotACall);
+    }
+    let letter = first[0];
+    if letter == b'K' {
+        return writes::parse(line, count, numbers);
+    }
+    of_letter(letter, line, count, text)
+}

@@ -1,0 +1,19 @@
+-- The greatest numbers that an instruction names and that a rest and a loop count reach.
+-- Assumes nothing.
+use Prim.Native.Nat.{ℕ}
+
+-- 01: "n is ±nnn within 8,388,607 each way"; of the 05: "nnn", "0 to 8,388,607"
+abbrev pub stepLimit : ℕ
+stepLimit = 8388607
+
+-- 01: "65 nnn (0 to 65,535)"
+abbrev pub delayLimit : ℕ
+delayLimit = 65535
+
+-- 01: "61 nnn (1 to 65,535)"; "a loop count is at most 65,535"
+abbrev pub loopLimit : ℕ
+loopLimit = 65535
+
+-- 01: "a rest is within 33,554,428 either way"
+abbrev pub restLimit : ℕ
+restLimit = 33554428
