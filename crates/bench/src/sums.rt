@@ -50,13 +50,13 @@ fn board_seen(order: BoardOrder) -> u32 {
         BoardOrder::Stand(_) => 1,
         BoardOrder::Slow(_) => 2,
         BoardOrder::Run {
-            lines,
+            signals,
             hertz,
             remaining,
             ..
         } => wrapping_add_u32(
             wrapping_add_u32(hertz, remaining.bits()),
-            lines.current as u32,
+            signals.current as u32,
         ),
     }
 }

@@ -6,21 +6,19 @@ ghost use mathlib.Core.Path.{_≡_};
 ghost use mathlib.Core.Bool.{true};
 ghost use Rattle.laws.specs.Tests.{choose, same};
 ghost use Rattle.instruction.specs.Soundness.{cellSound};
-ghost use Rattle.machine.specs.Record.{withCam, withLoopCount, withOutput, withPosition};
-ghost use Rattle.machine.specs.Record.{withRunning};
-ghost use Rattle.machine.specs.Starting.{advanced as advancedOf};
-ghost use Rattle.machine.specs.Taking.{conditionAt};
-ghost use Rattle.changes.specs.Changes.{changeOf, changedBy, closingLoop, delayChange};
-ghost use Rattle.changes.specs.Changes.{delayOf, isMore, nextChange, placeIn, timeDelay};
+ghost use Rattle.changes.specs.Changes.{changeAt, changeOf, changedBy, closingLoop};
+ghost use Rattle.changes.specs.Changes.{delayChange, delayOf, isMore, levelAt, nextChange};
+ghost use Rattle.changes.specs.Changes.{placeIn, runningAfter, takenChange, timeDelay};
 use instruction::Cell;
 use instruction::Instruction;
 use machine::Cam;
+use machine::Fault;
 use machine::Phase;
 use machine::Remaining;
 use machine::Running;
 use machine::State;
-use progress::advanced;
-use progress::failed;
+use progress::at_rest;
+use progress::passed;
 use units::CellAddress;
 use units::Milliseconds;
 use units::Position;
@@ -58,39 +56,7 @@ pub fn is_more(change: Change) -> bool
     }
 }
 
-fn advance(mut state: State, next: CellAddress, loops: u16) -> State
-    ensures { λ r. ⌜ r ≡
-        advancedOf (withRunning state (withLoopCount (state .running) loops)) next ⌝ }
-{
-    state.running.loops = loops;
-    advanced(state, next)
-}
-
-// An output, a flag or the motor current.
-fn set_output(mut state: State, next: CellAddress, place: u8, on: bool) -> State
-    requires { ⌜ place < 14 ⌝ }
-    ensures { λ r. ⌜ r ≡ advancedOf (withOutput state place on) next ⌝ }
-{
-    let k = place as usize;
-    state.outputs[k] = on;
-    advanced(state, next)
-}
-
-fn set_cam(mut state: State, next: CellAddress, cam: Cam) -> State
-    ensures { λ r. ⌜ r ≡ advancedOf (withCam state cam) next ⌝ }
-{
-    state.cam = cam;
-    advanced(state, next)
-}
-
-fn set_position(mut state: State, next: CellAddress, position: Position) -> State
-    ensures { λ r. ⌜ r ≡ advancedOf (withPosition state position) next ⌝ }
-{
-    state.position = position;
-    advanced(state, next)
-}
-
-// The running part with so much of a delay remaining.
+// The running part in a delay of which so much remains.
 pub fn delaying(running: Running, at_speed: bool, delay: Milliseconds) -> Running
     ensures { λ r. ⌜ r ≡ delayOf running «at_speed» delay ⌝ }
 {
@@ -105,29 +71,67 @@ pub fn delaying(running: Running, at_speed: bool, delay: Milliseconds) -> Runnin
     }
 }
 
-fn set_delay(mut state: State, at_speed: bool, delay: Milliseconds) -> State
-    ensures { λ r. ⌜ r ≡ withRunning state (delayOf (state .running) «at_speed» delay) ⌝ }
+// The running part as it is, by its fields: copied whole, the bytes between them would be carried
+// through each turn of a wait.
+fn unchanged(running: Running) -> Running
+    ensures { λ r. ⌜ r ≡ running ⌝ }
 {
-    let running = delaying(state.running, at_speed, delay);
-    state.running = running;
-    state
+    let cell = running.cell;
+    let phase = running.phase;
+    let remaining = running.remaining;
+    let loops = running.loops;
+    let at_speed = running.at_speed;
+    Running {
+        cell,
+        phase,
+        remaining,
+        loops,
+        at_speed,
+    }
+}
+
+// The running part after a change.
+pub fn running_after(change: Change, running: Running) -> Running
+    ensures { λ r. ⌜ r ≡ runningAfter change running ⌝ }
+{
+    match change {
+        Change::Nothing => unchanged(running),
+        Change::Advance(next, loops) => passed(next, loops),
+        Change::Output(next, _, _) => passed(next, running.loops),
+        Change::Cam(next, _) => passed(next, running.loops),
+        Change::Position(next, _) => passed(next, running.loops),
+        Change::Delay(at_speed, delay) => delaying(running, at_speed, delay),
+        Change::Fault(_) => at_rest(),
+        Change::More => unchanged(running),
+    }
 }
 
 // Carries a change out by value. One of more is left to the caller.
-pub fn changed(state: State, change: Change) -> State
+pub fn changed(mut state: State, change: Change) -> State
     requires { ⌜ placeIn change < 14 ⌝ }
     ensures { λ r. ⌜ r ≡ changedBy change state ⌝ }
 {
+    let at = state.running.cell;
+    let running = running_after(change, state.running);
+    state.running = running;
     match change {
-        Change::Nothing => state,
-        Change::Advance(next, loops) => advance(state, next, loops),
-        Change::Output(next, place, on) => set_output(state, next, place, on),
-        Change::Cam(next, cam) => set_cam(state, next, cam),
-        Change::Position(next, position) => set_position(state, next, position),
-        Change::Delay(at_speed, delay) => set_delay(state, at_speed, delay),
-        Change::Fault(code) => failed(state, code),
-        Change::More => state,
+        Change::Output(_, place, on) => {
+            let k = place as usize;
+            state.outputs[k] = on;
+        }
+        Change::Cam(_, cam) => {
+            state.cam = cam;
+        }
+        Change::Position(_, position) => {
+            state.position = position;
+        }
+        Change::Fault(code) => {
+            let fault = Fault { code, cell: at };
+            state.fault = fault;
+        }
+        _ => {}
     }
+    state
 }
 
 // A 62: error 52 at count 0; else one less, then the next cell at 0, the jump otherwise.
@@ -144,16 +148,16 @@ fn closing_loop(loops: u16, jump: CellAddress, next: CellAddress) -> Change
 }
 
 // The level of an input or a flag that a 63 names.
-fn condition_at(state: State, place: u8) -> bool
+fn condition_at<'a>(inputs: &'a [bool; 11], outputs: &'a [bool; 14], place: u8) -> bool
     requires { ⌜ place < 16 ⌝ }
-    ensures { λ r. ⌜ r ≡ conditionAt state place ⌝ }
+    ensures { λ r. ⌜ r ≡ levelAt (now (inputs .entry)) (now (outputs .entry)) place ⌝ }
 {
     let k = place as usize;
     if k < 8 {
-        return state.inputs[k];
+        return inputs[k];
     }
     let flag = k - 8;
-    state.outputs[State::F0 + flag]
+    outputs[State::F0 + flag]
 }
 
 // Where a 63 goes: to the jump where the level is the one that it asks for.
@@ -176,26 +180,16 @@ fn time_delay(delay: Milliseconds, loops: u16, next: CellAddress) -> Change
     Change::Delay(false, delay)
 }
 
-// What taking a cell changes.
-fn change_of(state: State, cell: Cell) -> Change
+// What taking a cell changes, given the loop count and the levels that a 63 looks at.
+fn change_of<'a>(cell: Cell, loops: u16, inputs: &'a [bool; 11], outputs: &'a [bool; 14]) -> Change
     requires { ⌜ cellSound cell ≡ true ⌝ }
-    ensures { λ r. ⌜ r ≡ changeOf state (cell .instruction) (cell .next) ⌝ }
+    ensures { λ r. ⌜ r ≡
+        changeOf loops (now (inputs .entry)) (now (outputs .entry)) (cell .instruction) (cell .next) ⌝ }
 {
     let instruction = cell.instruction;
     let next = cell.next;
-    let loops = state.running.loops;
     match instruction {
         Instruction::Null => Change::Advance(next, loops),
-        Instruction::IndexedRamp { .. } => Change::More,
-        Instruction::IndexedRampFine { .. } => Change::More,
-        Instruction::FreeRamp { .. } => Change::More,
-        Instruction::FreeRampFine { .. } => Change::More,
-        Instruction::Indexed { .. } => Change::More,
-        Instruction::IndexedFine { .. } => Change::More,
-        Instruction::Free { .. } => Change::More,
-        Instruction::FreeFine { .. } => Change::More,
-        Instruction::ZeroSearch { .. } => Change::More,
-        Instruction::DelayedStop { .. } => Change::More,
         Instruction::CamSetting { set, position } => Change::Cam(next, Cam { set, position }),
         Instruction::OutputSetting { output, on } => Change::Output(next, output.0, on),
         Instruction::CounterReset => Change::Position(next, Position(0)),
@@ -206,12 +200,12 @@ fn change_of(state: State, cell: Cell) -> Change
             on,
             jump,
         } => {
-            let level = condition_at(state, condition.0);
+            let level = condition_at(inputs, outputs, condition.0);
             Change::Advance(jump_or_next(level, on, jump, next), loops)
         }
         Instruction::TimeDelay { delay } => time_delay(delay, loops, next),
-        Instruction::Recovery => Change::More,
         Instruction::CurrentSetting { on } => Change::Output(next, State::CU as u8, on),
+        _ => Change::More,
     }
 }
 
@@ -237,24 +231,42 @@ fn delay_change(remaining: Remaining, at_speed: bool, loops: u16, next: CellAddr
     }
 }
 
-// What the next millisecond of a busy drive changes.
-pub fn next_change(state: State, cell: Cell) -> Change
+// What the next millisecond of a busy drive changes, given its running part and its levels. They
+// are lent, since a state handed on by value would be copied to look one level up.
+pub fn change_at<'a>(
+    running: Running,
+    inputs: &'a [bool; 11],
+    outputs: &'a [bool; 14],
+    cell: Cell,
+) -> Change
     requires { ⌜ cellSound cell ≡ true ⌝ }
-    ensures { λ r. ⌜ r ≡ nextChange state cell ⌝ }
+    ensures { λ r. ⌜ r ≡ changeAt running (now (inputs .entry)) (now (outputs .entry)) cell ⌝ }
 {
-    let running = state.running;
     let phase = running.phase;
     match phase {
-        Phase::Waiting => change_of(state, cell),
+        Phase::Waiting => change_of(cell, running.loops, inputs, outputs),
         Phase::Delay => {
             let remaining = running.remaining;
             let next = cell.next;
             delay_change(remaining, running.at_speed, running.loops, next)
         }
-        Phase::Run => Change::Nothing,
-        Phase::Braking => Change::Nothing,
-        Phase::Slowing => Change::Nothing,
-        Phase::EmergencySlowing => Change::Nothing,
-        Phase::BackOff => Change::Nothing,
+        _ => Change::Nothing,
     }
+}
+
+// The same of a state.
+pub fn next_change(state: State, cell: Cell) -> Change
+    requires { ⌜ cellSound cell ≡ true ⌝ }
+    ensures { λ r. ⌜ r ≡ nextChange state cell ⌝ }
+{
+    change_at(state.running, &state.inputs, &state.outputs, cell)
+}
+
+// What taking a cell changes of a state, whatever its phase.
+pub fn taken_change(state: State, cell: Cell) -> Change
+    requires { ⌜ cellSound cell ≡ true ⌝ }
+    ensures { λ r. ⌜ r ≡ takenChange state (cell .instruction) (cell .next) ⌝ }
+{
+    let loops = state.running.loops;
+    change_of(cell, loops, &state.inputs, &state.outputs)
 }

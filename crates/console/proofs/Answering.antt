@@ -54,7 +54,8 @@ put-part l w k p ys h f e = record { next = refl; now = now }
 
 pub answered-so :
     (s : List ℕ) (m : Machine) (l : List ℕ) (w k : ℕ) (ys : List ℕ) (t : Told) (v : Waited) (shown : List Shown) (n : ℕ) →
-    w + 64 ≤ length l → k ≡ 64 → length ys ≡ length (take k (drop w l)) → toldAs t ys ≡ apply (SendString s (take k (drop w l))) m → ys ≡ bufferAfter s (take k (drop w l)) m →
+    w + 64 ≤ length l → k ≡ 64 → length ys ≡ length (take k (drop w l)) →
+    toldAs t ys ≡ apply (SendString s (take k (drop w l))) m → ys ≡ bufferAfter s (take k (drop w l)) m →
     waitedAs v shown ≡ apply (Wait 1000) (t .drive .machine) → n ≡ min (t .length) 64 →
     Answers s m l w (take w l ++ (ys ++ drop k (drop w l))) (record { drive = v .drive; written = w + n })
 unfolding toldAs waitedAs answerTo afterString next bufferAfter
@@ -75,7 +76,11 @@ answered-so s m l w k ys t v shown n hl hk hy ht hb hv hn = record { machine = m
         ∙ ap (λ (x : Machine). apply (Wait 1000) x .machine) (ap (λ (o : Outcome). o .machine) sent)
 
     long : n ≡ length (answerTo s m)
-    long = hn ∙ ap (λ (i : ℕ). min (t .length) i) (sym (hy ∙ size)) ∙ sym (length-take (t .length) ys) ∙ ap (λ (o : Outcome). length (o .answer)) sent
+    long =
+        hn
+        ∙ ap (λ (i : ℕ). min (t .length) i) (sym (hy ∙ size))
+        ∙ sym (length-take (t .length) ys)
+        ∙ ap (λ (o : Outcome). length (o .answer)) sent
 
     now : ys ≡ filled (answerTo s m) part
     now = hb ∙ ap (λ (o : Outcome). filled (o .answer) part) (lent-any s part m size)

@@ -34,8 +34,9 @@ put-behind {l} {l′} {p} {w} {e} h f =
 
 -- after a string and its answer
 pub going-next :
-    {part : List ℕ} {c : Standing} {l out : List ℕ} {m : Machine} {n w at : ℕ} (l′ out′ s : List ℕ) (r : Taken) (a : Answered) → Going part c l out m n w at →
-    at < length part → Takes part at l n l′ r → r .ended ≡ true → s ≡ take (r .length) l′ → Answers s m out w out′ a → length l′ ≡ 65 → length out′ ≡ 65536 →
+    {part : List ℕ} {c : Standing} {l out : List ℕ} {m : Machine} {n w at : ℕ} (l′ out′ s : List ℕ) (r : Taken) (a : Answered) →
+    Going part c l out m n w at → at < length part → Takes part at l n l′ r → r .ended ≡ true → s ≡ take (r .length) l′ →
+    Answers s m out w out′ a → length l′ ≡ 65 → length out′ ≡ 65536 →
     Going part c l′ out′ (a .drive .machine) 0 (a .written) (r .next)
 going-next {part} {c} {l} {out} {m} {n} {w} {at} l′ out′ s r a g h t e es ha hl ho =
     record { place = turn .within; ready = ready; filled = filled; same = same }
@@ -60,18 +61,31 @@ going-next {part} {c} {l} {out} {m} {n} {w} {at} l′ out′ s r a g h t e es ha
         ∙ ap (λ (x : Machine). console (drop (r .next) part) (standing x [] (take w out ++ answerTo s m))) (sym (ha .machine))
         ∙ ap (λ (x : List ℕ). console (drop (r .next) part) (standing (a .drive .machine) [] x)) (sym behind)
 
+-- the output has place for what is written
+going-count :
+    {part : List ℕ} {c : Standing} {l out : List ℕ} {m : Machine} {n w at : ℕ} → Going part c l out m n w at → length (take w out) ≡ w
+going-count {part} {c} {l} {out} {m} {n} {w} {at} g =
+    length-take-le w out (omega (arith, g .filled, g .place, g .ready .part, g .ready .room))
+
 -- at the end of the part
 pub going-last :
     {part : List ℕ} {c : Standing} {l out : List ℕ} {n w at : ℕ} (d : Drive) → Going part c l out (d .machine) n w at → length part ≤ at →
     Serves (console part c) l out (record { drive = d; length = n; written = w })
 unfolding console
 going-last {part} {c} {l} {out} {n} {w} {at} d g h =
-    record { machine = sym (ap (λ (x : Standing). x .machine) end); held = held; within = g .ready .kept; written = sym (ap (λ (x : Standing). x .written) end) }
+    record {
+      machine = sym (ap (λ (x : Standing). x .machine) end);
+      held = held;
+      within = g .ready .kept;
+      written = sym (ap (λ (x : Standing). x .written) end);
+      count = sym (going-count g) ∙ sym (ap (λ (x : Standing). length (x .written)) end);
+    }
   where
     end : console part c ≡ standing (d .machine) (take n l) (take w out)
     end =
         let i : at ≡ length part = omega (arith, g .place) in
-        g .same ∙ ap (λ (x : List ℕ). console x (standing (d .machine) (take n l) (take w out))) (ap (λ (k : ℕ). drop k part) i ∙ drop-length part)
+        g .same
+        ∙ ap (λ (x : List ℕ). console x (standing (d .machine) (take n l) (take w out))) (ap (λ (k : ℕ). drop k part) i ∙ drop-length part)
 
     held : take n l ≡ take 64 (console part c .held)
     held =
@@ -88,6 +102,7 @@ going-rest {part} {c} {l} {out} {n} {w} {at} l′ r d g t e =
       held = rest .held ∙ sym (ap (λ (x : Standing). take 64 (x .held)) end);
       within = rest .within;
       written = sym (ap (λ (x : Standing). x .written) end);
+      count = sym (going-count g) ∙ sym (ap (λ (x : Standing). length (x .written)) end);
     }
   where
     rest : Rest part at (d .machine) l n (take w out) l′ r

@@ -65,7 +65,9 @@ console-all (x ∷ b) c h = all-by x b (eqb x 13) refl (console-all b) c h
 
 -- up to a 13 every byte is held, and then the string is answered
 abbrev Ends : List ℕ → Type 0
-Ends b = (c : Standing) → indexOf 13 b < length b → console b c ≡ console (drop (suc (indexOf 13 b)) b) (answering (holding c (take (indexOf 13 b) b)))
+Ends b =
+    (c : Standing) → indexOf 13 b < length b →
+    console b c ≡ console (drop (suc (indexOf 13 b)) b) (answering (holding c (take (indexOf 13 b) b)))
 
 ended-by : (x : ℕ) (b : List ℕ) (t : Bool) → eqb x 13 ≡ t → Ends b → Ends (x ∷ b)
 ended-by x b true e f c h = rw (index-here x b e) (console-here x b c e ∙ ap (λ (d : Standing). console b (answering d)) (sym (holding-none c)))
@@ -83,19 +85,26 @@ console-ended (x ∷ b) c h = ended-by x b (eqb x 13) refl (console-ended b) c h
 -- ---- a string taken from a part
 
 -- the string stands at the front of its buffer
-taken-front : (part : List ℕ) (at : ℕ) (l : List ℕ) (n : ℕ) (l′ : List ℕ) (r : Taken) → Takes part at l n l′ r → take (r .length) l′ ≡ stringAfter (take n l) (drop at part)
+taken-front :
+    (part : List ℕ) (at : ℕ) (l : List ℕ) (n : ℕ) (l′ : List ℕ) (r : Taken) → Takes part at l n l′ r →
+    take (r .length) l′ ≡ stringAfter (take n l) (drop at part)
 unfolding takenOf
 taken-front part at l n l′ r t =
     let s = stringAfter (take n l) (drop at part) in
     ap (λ (x : Taken). take (x .length) l′) (t .taken) ∙ ap (λ (x : List ℕ). take (length s) x) (t .now) ∙ take-append-seam s (drop (length s) l)
 
-ended-so : (part : List ℕ) (at : ℕ) (l : List ℕ) (n : ℕ) (l′ : List ℕ) (r : Taken) (t : Bool) → Takes part at l n l′ r → r .ended ≡ t → ends (drop at part) ≡ t
+ended-so :
+    (part : List ℕ) (at : ℕ) (l : List ℕ) (n : ℕ) (l′ : List ℕ) (r : Taken) (t : Bool) → Takes part at l n l′ r → r .ended ≡ t →
+    ends (drop at part) ≡ t
 unfolding takenOf
 ended-so part at l n l′ r t h e = sym (ap (λ (x : Taken). x .ended) (h .taken)) ∙ e
 
-next-so : (part : List ℕ) (at : ℕ) (l : List ℕ) (n : ℕ) (l′ : List ℕ) (r : Taken) → Takes part at l n l′ r → r .ended ≡ true → r .next ≡ at + indexOf 13 (drop at part) + 1
+next-so :
+    (part : List ℕ) (at : ℕ) (l : List ℕ) (n : ℕ) (l′ : List ℕ) (r : Taken) → Takes part at l n l′ r → r .ended ≡ true →
+    r .next ≡ at + indexOf 13 (drop at part) + 1
 unfolding takenOf
-next-so part at l n l′ r h e = ap (λ (x : Taken). x .next) (h .taken) ∙ choose-true (ends (drop at part)) _ _ (ended-so part at l n l′ r true h e)
+next-so part at l n l′ r h e =
+    ap (λ (x : Taken). x .next) (h .taken) ∙ choose-true (ends (drop at part)) _ _ (ended-so part at l n l′ r true h e)
 
 -- after a string that ends in the part: where to go on, and what the console is there
 pub record Turn (part : List ℕ) (at : ℕ) (m : Machine) (l : List ℕ) (n : ℕ) (w l′ : List ℕ) (r : Taken) : Type 0 where

@@ -1,5 +1,5 @@
--- 01, "Bench strings and near misses": "Console program: strings from standard input, each given to one drive of address 00, then a wait of 1,000; of
--- a longer string the first 64 bytes and the 13 are given, and bytes after the last 13 are dropped."
+-- 01, "Bench strings and near misses": "Console program: strings from standard input, each given to one drive of address 00, then a wait of
+-- 1,000; of a longer string the first 64 bytes and the 13 are given, and bytes after the last 13 are dropped."
 -- Assumes nothing.
 use Prim.Native.Nat.{ℕ}
 use mathlib.Core.Bool.{Bool, true, false}
@@ -45,6 +45,10 @@ unfoldable pub console : List ℕ → Standing → Standing
 console [] c = c
 console (b ∷ bs) c = console bs (byteTaken (eqb b 13) b c)
 
+-- where the program stands after an input: at first the drive is fresh, and nothing is held or written
+unfoldable pub standingAfter : List ℕ → Standing
+standingAfter input = console input (standing (fresh (record { 0 = 0 })) [] [])
+
 -- what the program writes for an input: "bytes after the last 13 are dropped", since nothing is made of what is held
 unfoldable pub outputOf : List ℕ → List ℕ
-outputOf input = console input (standing (fresh (record { 0 = 0 })) [] []) .written
+outputOf input = standingAfter input .written

@@ -1,11 +1,14 @@
 -- What a call comes to on a sound drive and on an unsound one.
 -- Assumes nothing.
 use Prim.Native.Nat.{ℕ}
-use mathlib.Core.Path.{_≡_, refl, sym, ap, _∙_}
+use mathlib.Core.Path.{_≡_, refl, sym, ap, subst, _∙_}
 use mathlib.Core.Bool.{Bool, true, false}
+use mathlib.Core.Logic.{_≢_}
 use mathlib.Core.List.{List, [], _∷_, _++_}
 use lib.ListN.{length, take, drop}
-use Rattle.laws.proofs.Tests.{choose-true, choose-false}
+use lib.Dec.{eqb}
+use borrow.Author.Tests.{eqb-true, eqb-false}
+use Rattle.laws.proofs.Tests.{choose-true, choose-false, choose-by}
 use Rattle.machine.specs.Soundness.{sound}
 use Rattle.machine.specs.Record.{withState}
 use Rattle.machine.specs.Milliseconds.{millisecond}
@@ -15,12 +18,14 @@ use Rattle.machine.specs.Calls.Ending.{NoWait}
 use Rattle.machine.specs.Operations.{filled, bufferAfter}
 use Rattle.machine.specs.declared.State.{State}
 use Rattle.machine.specs.declared.Machine.{Machine}
+use Rattle.machine.proofs.Invariant.{refused-whole}
 use Rattle.operations.specs.Results.{numberOf, actedOn, Answering}
 use Rattle.operations.specs.declared.results.Refusal.{Refusal}
-use Rattle.operations.specs.declared.results.Refusal.the-variants.{None, Unsound}
+use Rattle.operations.specs.declared.results.Refusal.the-variants.{Unsound}
+use Rattle.operations.specs.declared.results.Acted.{Acted}
 use Rattle.operations.specs.declared.results.Answered.{Answered}
 use Rattle.drive.specs.declared.results.Told.{Told}
-use Rattle.drive.specs.Results.{toldAs}
+use Rattle.drive.specs.Results.{handedBack, toldAs}
 
 -- "2, drive unsound": by the check that failed
 pub unsound-applied :
@@ -72,8 +77,22 @@ string-applied b buffer later m r e a =
     let count = a .count ∙ ap (λ (o : Outcome). length (o .answer)) (sym e) in
     (whole ∙ a .outcome ∙ sym e, (count, a .bytes ∙ ap (λ (o : Outcome). filled (o .answer) buffer) (sym e)))
 
+-- what a refused call hands back: its number, and the drive as it came
+abbrev Same : Machine → Outcome → Type 0
+Same m o = o .refusal ≢ 0 → o ≡ refused (o .refusal) m
+
+-- an event that is refused, and one that is taken
+pub handed-back :
+    (c : Call) (m : Machine) (a : Acted) → actedOn m a ≡ act c m → apply c m ≡ act c m → handedBack m a ≡ apply c m
+unfolding actedOn handedBack
+handed-back c m a q e =
+    let same = q ∙ sym e in
+    choose-by (λ (o : Outcome). o ≡ apply c m) (eqb (numberOf (a .refusal)) 0)
+    (λ t. ap (λ (n : ℕ). refused n (withState m (a .state))) (sym (eqb-true _ _ t)) ∙ same)
+    (λ t. sym (subst (Same m) (sym same) (refused-whole c m) (eqb-false _ _ t)) ∙ same)
+
 -- a millisecond is never refused
 pub time-passed :
-    (m : Machine) {s : State} → s ≡ millisecond (m .cells) (m .state) → actedOn m (record { refusal = None; state = s }) ≡ act Millisecond m
-unfolding actedOn numberOf act
+    (m : Machine) {s : State} → s ≡ millisecond (m .cells) (m .state) → done (withState m s) ≡ act Millisecond m
+unfolding act
 time-passed m e = ap (λ (s : State). done (withState m s)) e

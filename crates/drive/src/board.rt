@@ -8,7 +8,7 @@ use crate::Drive;
 use crate::results::Done;
 use crate::results::Ordered;
 use crate::wrapping::done;
-use crate::wrapping::unsound;
+use crate::wrapping::refused;
 use operations::board;
 use operations::results::Refusal;
 use soundness::sound;
@@ -20,7 +20,7 @@ impl Drive {
     {
         let machine = self.machine;
         if !sound(machine) {
-            return unsound(machine);
+            return refused(Refusal::Unsound, machine);
         }
         done(machine, board::step(machine))
     }
@@ -31,7 +31,7 @@ impl Drive {
     {
         let machine = self.machine;
         if !sound(machine) {
-            return unsound(machine);
+            return refused(Refusal::Unsound, machine);
         }
         done(machine, board::at_speed(machine))
     }
@@ -42,7 +42,7 @@ impl Drive {
     {
         let machine = self.machine;
         if !sound(machine) {
-            return unsound(machine);
+            return refused(Refusal::Unsound, machine);
         }
         done(machine, board::halted(machine))
     }

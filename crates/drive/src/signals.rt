@@ -9,7 +9,7 @@ use crate::Drive;
 use crate::results::Done;
 use crate::results::Told;
 use crate::wrapping::done;
-use crate::wrapping::unsound;
+use crate::wrapping::refused;
 use operations::results::Refusal;
 use operations::signals;
 use soundness::sound;
@@ -51,7 +51,7 @@ impl Drive {
     {
         let machine = self.machine;
         if !sound(machine) {
-            return unsound(machine);
+            return refused(Refusal::Unsound, machine);
         }
         done(machine, signals::inputs(machine, word))
     }

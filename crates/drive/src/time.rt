@@ -7,9 +7,8 @@ ghost use Rattle.drive.specs.Results.{doneAs, waitedAs};
 use crate::Drive;
 use crate::results::Done;
 use crate::results::Waited;
-use crate::wrapping::done;
-use crate::wrapping::unsound;
-use operations::results::Acted;
+use crate::wrapping::accepted;
+use crate::wrapping::refused;
 use operations::results::Ending;
 use operations::results::Refusal;
 use operations::time;
@@ -23,14 +22,10 @@ impl Drive {
     {
         let machine = self.machine;
         if !sound(machine) {
-            return unsound(machine);
+            return refused(Refusal::Unsound, machine);
         }
         let state = time::millisecond(machine);
-        let acted = Acted {
-            refusal: Refusal::None,
-            state,
-        };
-        done(machine, acted)
+        accepted(machine, state)
     }
 
     // Milliseconds until the drive is idle, moving or the budget is spent.

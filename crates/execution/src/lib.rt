@@ -2,4 +2,4 @@
 // Each function takes the state, the present cell and, where it needs it, the interrupted record's
 // cell.
 pub mod milliseconds;
-pub mod taking;
+mod taking;

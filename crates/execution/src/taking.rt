@@ -9,11 +9,10 @@ ghost use Rattle.machine.specs.Taking.{allowsX4, lacksX4, beginIndexed, takeInd
 ghost use Rattle.machine.specs.Taking.{takeSearch, takeMotion, takeRun, take as takeOf};
 ghost use Rattle.machine.specs.Taking.{resume as resumeOf, restored as restoredOf, takeCell};
 ghost use Rattle.machine.specs.Taking.{recover as recoverOf};
-ghost use Rattle.machine.specs.declared.Phase.the-variants.{Waiting};
-ghost use Rattle.changes.specs.Changes.{isMore, nextChange};
+ghost use Rattle.changes.specs.Changes.{isMore, takenChange};
 use changes::changed;
 use changes::is_more;
-use changes::next_change;
+use changes::taken_change;
 use instruction::Cell;
 use instruction::run::Motion;
 use instruction::run::Profile;
@@ -30,7 +29,7 @@ use progress::waiting_at;
 use units::CellAddress;
 use units::Steps;
 
-pub fn allows_x4(resolution: Resolution) -> bool
+fn allows_x4(resolution: Resolution) -> bool
     ensures { λ r. ⌜ r ≡ allowsX4 resolution ⌝ }
 {
     match resolution {
@@ -45,7 +44,7 @@ pub fn allows_x4(resolution: Resolution) -> bool
     }
 }
 
-pub fn lacks_x4(state: State, x4: bool) -> bool
+fn lacks_x4(state: State, x4: bool) -> bool
     ensures { λ r. ⌜ r ≡ lacksX4 state x4 ⌝ }
 {
     if x4 {
@@ -79,7 +78,7 @@ fn begin_indexed(state: State, shift: Steps, next: CellAddress) -> State
     entered(state, Phase::Run, Remaining::Counted(shift))
 }
 
-pub fn take_indexed(state: State, profile: Profile, next: CellAddress) -> State
+fn take_indexed(state: State, profile: Profile, next: CellAddress) -> State
     requires { ⌜ stepsWithin (profile .steps) ≡ true ⌝ }
     ensures { λ r. ⌜ r ≡ takeIndexed state profile next ⌝ }
 {
@@ -92,7 +91,7 @@ pub fn take_indexed(state: State, profile: Profile, next: CellAddress) -> State
 }
 
 // A run without end is passed over while input ES is on.
-pub fn take_free(state: State, next: CellAddress) -> State
+fn take_free(state: State, next: CellAddress) -> State
     ensures { λ r. ⌜ r ≡ takeFree state next ⌝ }
 {
     if state.inputs[State::ES] {
@@ -102,7 +101,7 @@ pub fn take_free(state: State, next: CellAddress) -> State
 }
 
 // Its fast part is skipped while PX is on.
-pub fn take_search(state: State) -> State
+fn take_search(state: State) -> State
     ensures { λ r. ⌜ r ≡ takeSearch state ⌝ }
 {
     if state.inputs[State::PX] {
@@ -124,7 +123,7 @@ fn take_motion(motion: Motion, state: State, profile: Profile, next: CellAddress
     }
 }
 
-pub fn take_run(state: State, profile: Profile, next: CellAddress) -> State
+fn take_run(state: State, profile: Profile, next: CellAddress) -> State
     requires { ⌜ stepsWithin (profile .steps) ≡ true ⌝ }
     ensures { λ r. ⌜ r ≡ takeRun state profile next ⌝ }
 {
@@ -148,7 +147,8 @@ fn take_run_of(state: State, cell: Cell) -> State
 // Takes a cell that changes more: a run begins, and a 69 ends the program, as where its record is
 // empty.
 fn take_more(state: State, cell: Cell) -> State
-    requires { ⌜ (cellSound cell ≡ true) × (isMore (nextChange state cell) ≡ true) ⌝ }
+    requires { ⌜ (cellSound cell ≡ true) ×
+        (isMore (takenChange state (cell .instruction) (cell .next)) ≡ true) ⌝ }
     ensures { λ r. ⌜ r ≡ takeOf state (cell .instruction) (cell .next) ⌝ }
 {
     let instruction = cell.instruction;
@@ -160,10 +160,10 @@ fn take_more(state: State, cell: Cell) -> State
 
 // Takes the present cell. A 69 is taken here only as one with an empty record.
 fn take(state: State, cell: Cell) -> State
-    requires { ⌜ (cellSound cell ≡ true) × (state .running .phase ≡ Waiting) ⌝ }
+    requires { ⌜ cellSound cell ≡ true ⌝ }
     ensures { λ r. ⌜ r ≡ takeOf state (cell .instruction) (cell .next) ⌝ }
 {
-    let change = next_change(state, cell);
+    let change = taken_change(state, cell);
     if is_more(change) {
         return take_more(state, cell);
     }
@@ -183,7 +183,7 @@ fn resume_run(state: State, cell: Cell, steps: Steps) -> State
 }
 
 fn resume(remaining: Remaining, state: State, cell: Cell) -> State
-    requires { ⌜ (cellSound cell ≡ true) × (state .running .phase ≡ Waiting) ⌝ }
+    requires { ⌜ cellSound cell ≡ true ⌝ }
     ensures { λ r. ⌜ r ≡ resumeOf remaining state cell ⌝ }
 {
     match remaining {
@@ -209,7 +209,7 @@ fn restored(mut state: State) -> State
 }
 
 // Takes a 69, given the interrupted record's cell.
-pub fn recover(state: State, cell: Cell) -> State
+fn recover(state: State, cell: Cell) -> State
     requires { ⌜ cellSound cell ≡ true ⌝ }
     ensures { λ r. ⌜ r ≡ recoverOf state cell ⌝ }
 {
@@ -223,8 +223,7 @@ pub fn recover(state: State, cell: Cell) -> State
 
 // Takes the present cell, given the interrupted record's cell, where a 69 goes on.
 pub fn take_cell(state: State, cell: Cell, held: Cell) -> State
-    requires { ⌜ (cellSound cell ≡ true) × (cellSound held ≡ true) ×
-        (state .running .phase ≡ Waiting) ⌝ }
+    requires { ⌜ (cellSound cell ≡ true) × (cellSound held ≡ true) ⌝ }
     ensures { λ r. ⌜ r ≡ takeCell state cell held ⌝ }
 {
     let instruction = cell.instruction;

@@ -63,19 +63,19 @@ fields = tt
 
 -- which strings are heard, what they do and how they are answered
 unfoldable pub heard : Unit {0}
-unfolding machine-Answers.resolutionPlace machine-Answers.presetValue machine-Answers.presetText machine-Answers.positionText
-    machine-Answers.inputText machine-Answers.outputValue machine-Answers.outputText machine-Answers.memoryText machine-Answers.camText
-    machine-Answers.faultText machine-Answers.remainingBits machine-Answers.suspendedText machine-Answers.answerOf machine-Answers.accepted
-    machine-Answers.rejected machine-Commands.codeIn machine-Commands.onFields machine-Commands.onAll machine-Commands.onSent
-    machine-Commands.storeIn machine-Commands.presetKind machine-Commands.presetIn machine-Commands.camWith machine-Commands.camIn
-    machine-Commands.commandOf machine-Record.cellAt machine-Record.storedAt machine-Record.fresh machine-Record.idle machine-Record.moving
-    machine-Strings.carriedOut machine-Strings.ended machine-Strings.bodyOf machine-Strings.isDigit machine-Strings.addressed machine-Strings.isStop
-    machine-Strings.free machine-Strings.toEvery machine-Strings.permitted machine-Strings.judged machine-Strings.unanswered machine-Strings.told
+unfolding machine-Answers.presetValue machine-Answers.presetText machine-Answers.positionText machine-Answers.inputText
+    machine-Answers.outputValue machine-Answers.outputText machine-Answers.memoryText machine-Answers.camText machine-Answers.faultText
+    machine-Answers.remainingBits machine-Answers.suspendedText machine-Answers.answerOf machine-Answers.accepted machine-Answers.rejected
+    machine-Commands.codeIn machine-Commands.onFields machine-Commands.onAll machine-Commands.onSent machine-Commands.storeIn
+    machine-Commands.presetKind machine-Commands.presetIn machine-Commands.camWith machine-Commands.camIn machine-Commands.commandOf
+    machine-Record.cellAt machine-Record.storedAt machine-Record.fresh machine-Record.idle machine-Record.moving machine-Strings.carriedOut
+    machine-Strings.ended machine-Strings.bodyOf machine-Strings.isDigit machine-Strings.addressed machine-Strings.isStop machine-Strings.free
+    machine-Strings.toEvery machine-Strings.permitted machine-Strings.judged machine-Strings.unanswered machine-Strings.told
     machine-Answers.answerAt machine-Acting.sameNumbers machine-Acting.sameContent machine-Acting.keepsSuspended machine-Acting.storedState
     machine-Acting.presetSet machine-Acting.named machine-Acting.actedAt machine-Acting.cellsAfter machine-Acting.namedCell
     machine-Acting.machineAfter machine-Commands.isCode machine-Commands.resolutionAt machine-Commands.presetWith machine-Commands.commandBy
-    machine-Strings.headerOf machine-Strings.admitted machine-Strings.isStart machine-Strings.allowed machine-Strings.toldIn machine-Strings.toldBy
-    machine-Commands.placed
+    machine-Strings.headerOf machine-Strings.admitted machine-Strings.isStart machine-Strings.allowed machine-Strings.toldIn
+    machine-Strings.toldBy machine-Commands.placed
 heard = tt
 
 -- a program: starting, each code, a millisecond, a wait
@@ -105,12 +105,13 @@ runs = tt
 -- the test that comes before every call
 unfoldable pub soundness : Unit {0}
 unfolding machine-Soundness.presetsSound machine-Soundness.isCell machine-Soundness.positionSound machine-Soundness.camSound
-    machine-Soundness.faultSound machine-Soundness.loopCountSound machine-Soundness.stepsRest machine-Soundness.timeRest machine-Soundness.isNothing
-    machine-Soundness.isSteps machine-Soundness.isTime machine-Soundness.isStepsAlong machine-Soundness.isIndexed machine-Soundness.isDelay
-    machine-Soundness.suspendedRest machine-Soundness.suspendedSound machine-Soundness.hasRamp machine-Soundness.runPhase
-    machine-Soundness.brakingPhase machine-Soundness.slowingPhase machine-Soundness.backPhase machine-Soundness.hasPhase
-    machine-Soundness.emergencyRest machine-Soundness.busyRest machine-Soundness.markSound machine-Soundness.isWaiting machine-Soundness.restingSound
-    machine-Soundness.busySound machine-Soundness.runningSound machine-Soundness.stateSound machine-Soundness.sound
+    machine-Soundness.faultSound machine-Soundness.loopCountSound machine-Soundness.stepsRemaining machine-Soundness.timeRemaining
+    machine-Soundness.isNothing machine-Soundness.isSteps machine-Soundness.isTime machine-Soundness.isStepsAlong machine-Soundness.isIndexed
+    machine-Soundness.isDelay machine-Soundness.suspendedRemaining machine-Soundness.suspendedSound machine-Soundness.hasRamp
+    machine-Soundness.runPhase machine-Soundness.brakingPhase machine-Soundness.slowingPhase machine-Soundness.backPhase
+    machine-Soundness.hasPhase machine-Soundness.emergencyRemaining machine-Soundness.busyRemaining machine-Soundness.atSpeedSound
+    machine-Soundness.restingSound machine-Soundness.busySound machine-Soundness.runningSound machine-Soundness.stateSound
+    machine-Soundness.sound
 soundness = tt
 
 -- calls and lists of calls

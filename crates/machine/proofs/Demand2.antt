@@ -89,7 +89,7 @@ start-present m k buffer g i ee h l =
     ap (λ (o : Outcome). present (o .machine .cells) (o .machine .state))
     (apply-string (starting m k) buffer m g (le-ltb (length buffer) 64 l))
     ∙ ap (λ (o : Heard). present (o .machine .cells) (o .machine .state))
-    (ap (λ (b : List ℕ). told b m) (string-code "PS" 80 83 refl (own m) (placeField k))
+    (ap (λ (b : List ℕ). told b m) (string-code "PS" (own m) (placeField k))
     ∙ told-own (80 ∷ 83 ∷ placeField k) m (own-small m g) i (omega (arith, length-place k))
     ∙ ap (λ (o : Command). carriedOut (allowed o (m .state)) (ownAddress m) m) (start-parsed _ _ k h)
     ∙ ap (λ (o : Command). carriedOut o (ownAddress m) m) (start-allowed (addressAt k) (m .state) ee))

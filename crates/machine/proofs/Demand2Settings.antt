@@ -48,69 +48,65 @@ use Rattle.machine.specs.declared.commands.Command.{Command}
 use Rattle.machine.specs.declared.commands.Command.the-variants.{SetPreset, SetPosition, SetOutput, SetCam}
 use Rattle.machine.proofs.Invariant.{Good, good-next}
 use Rattle.machine.proofs.Members.{map-at, member-places}
-use Rattle.machine.proofs.Ranges.{preset-good}
+use Rattle.machine.proofs.Ranges.{preset-kinds, preset-good}
 use Rattle.machine.proofs.Addressing.{told-own}
 use Rattle.machine.proofs.Answering.{codeFor, textFor, answerTo, own-small, apply-string, look-ask}
 use Rattle.machine.proofs.Requests.{preset-asked, position-asked, output-asked, cam-asked}
-use Rattle.machine.proofs.Demand2Hearing.{other-allowed}
 use Rattle.machine.proofs.Demand2Strings.{string-code}
 use Rattle.machine.proofs.Demand2Rows.{print-first, ends-print}
 
 -- a string that is carried out as a new state, and the request that repeats its fields
 record Setting (m : Machine) (code : String) (fields : List ℕ) (r : Request) : Type 0 where
-  x : ℕ
-  y : ℕ
-  letters : bytes code ≡ x ∷ y ∷ []
-  short : length fields ≤ 59
+  short : length (bytes code ++ fields) ≤ 61
   command : Command
-  parsed : (p q : ℕ) → commandOf (p ∷ q ∷ x ∷ y ∷ fields) ≡ command
+  parsed : (p q : ℕ) → commandOf (p ∷ q ∷ (bytes code ++ fields)) ≡ command
   state : State
-  other : isStart command ≡ false
-  done : carriedOut command (ownAddress m) m ≡ heard (accepted (ownAddress m)) (withState m state)
+  done : carriedOut (allowed command (m .state)) (ownAddress m) m ≡ heard (accepted (ownAddress m)) (withState m state)
   rests : idle state ≡ true
   text : textFor r (withState m state) ≡ fields
 
 repeats :
-    (m : Machine) → Good m → idle (m .state) ≡ true → (code : String) (fields : List ℕ) (r : Request) → List·Memᴰ r requests →
+    (m : Machine) → Good m → idle (m .state) ≡ true → {code : String} {fields : List ℕ} {r : Request} → List·Memᴰ r requests →
     Setting m code fields r → Repeats m code fields r (codeFor r)
 unfolding next answerTo
-repeats m g i code fields r q s buffer l =
+repeats m g i {code} {fields} {r} q s buffer l =
     let n = next (SendString (answerOf (ownAddress m) code fields) buffer) m in
     let e : n ≡ withState m (s .state) =
     ap (λ (o : Outcome). o .machine) (apply-string (answerOf (ownAddress m) code fields) buffer m g (le-ltb (length buffer) 64 l))
     ∙ ap (λ (h : Heard). h .machine)
-    (ap (λ (b : List ℕ). told b m) (string-code code (s .x) (s .y) (s .letters) (own m) fields)
-    ∙ told-own (s .x ∷ s .y ∷ fields) m (own-small m g) i (omega (arith, s .short))
-    ∙ ap (λ (c : Command). carriedOut c (ownAddress m) m) (ap (λ (c : Command). allowed c (m .state)) (s .parsed _ _) ∙ other-allowed _ (m .state) (s .other))
-    ∙ s .done) in
+    (ap (λ (b : List ℕ). told b m) (string-code code (own m) fields) ∙ told-own (bytes code ++ fields) m (own-small m g) i (s .short)
+    ∙ ap (λ (c : Command). carriedOut (allowed c (m .state)) (ownAddress m) m) (s .parsed _ _) ∙ s .done) in
     look-ask r n q (good-next _ m g) (ap (λ (m : Machine). idle (m .state)) e ∙ s .rests)
     ∙ ap (answerOf (ownAddress n) (codeFor r)) (ap (textFor r) e ∙ s .text)
+
+-- what carrying out a setting computes
+setting : Unit {0}
+unfolding bytes mostAll most allowed isStart both choose carriedOut answerAt machineAfter actedAt cellsAfter idle codeFor textFor
+setting = tt
 
 -- ---- SA
 
 position-parsed : (a b p : ℕ) → valid anySigned p ≡ true → commandOf (a ∷ b ∷ 83 ∷ 65 ∷ printFields (anySigned ∷ []) (p ∷ [])) ≡ SetPosition p
-unfolding commandOf commandBy isCode codeIn pairOf bytes choose onAll onFields allGood every good goodSigned both allValid valid printFields printField
+unfolding commandOf commandBy isCode codeIn pairOf bytes choose onAll onFields allGood every good goodSigned both allValid valid
+    printFields printField
 position-parsed a b p v =
     rw (all-back (Optional (2 ^ 31) (2 ^ 31 - 1) ∷ []) (p ∷ []) (a ∷ b ∷ 83 ∷ 65 ∷ []) refl (both-true v refl) refl) refl
 
-position-sets :
-    (m : Machine) (p : ℕ) → idle (m .state) ≡ true → valid anySigned p ≡ true →
-    Setting m "SA" (printFields (anySigned ∷ []) (p ∷ [])) Position
-unfolding bytes mostAll most carriedOut answerAt machineAfter actedAt cellsAfter isStart idle textFor positionText
-position-sets m p i v =
-    record {
-      x = 83;
-      y = 65;
-      letters = refl;
+pub position-repeat :
+    (m : Machine) → Good m → idle (m .state) ≡ true → (p : ℕ) → valid anySigned p ≡ true →
+    Repeats m "SA" (printFields (anySigned ∷ []) (p ∷ [])) Position "QA"
+unfolding setting positionText
+position-repeat m g i p v =
+    repeats m g i position-asked
+    (record {
       short = omega (arith, fields-most (anySigned ∷ []) (p ∷ []));
       command = SetPosition p;
       parsed = λ a b. position-parsed a b p v;
       state = withPosition (m .state) (record { 0 = p });
-      other = refl;
       done = refl;
       rests = i;
       text = refl;
-    }
+    })
 
 -- ---- SO
 
@@ -144,24 +140,21 @@ output-set s k v n h t =
     choose-true _ _ _ (lt-ltb k 14 (omega arith)) ∙ ap bitOf (getD-set-same (s .outputs) k (isOne v) false (omega arith))
     ∙ keeps-bit v (bit-small v t)
 
-output-sets :
-    (m : Machine) (k v : ℕ) → length (m .state .outputs) ≡ 14 → idle (m .state) ≡ true → k < 13 → valid bit v ≡ true →
-    Setting m "SO" (printFields (Name Outputs ∷ bit ∷ []) (k ∷ v ∷ [])) (Output k)
-unfolding bytes mostAll most carriedOut answerAt machineAfter actedAt cellsAfter isStart idle textFor outputText
-output-sets m k v n i h t =
-    record {
-      x = 83;
-      y = 79;
-      letters = refl;
+pub outputs-repeat :
+    (m : Machine) → Good m → idle (m .state) ≡ true → (k v : ℕ) → k < 13 → valid bit v ≡ true →
+    Repeats m "SO" (printFields (Name Outputs ∷ bit ∷ []) (k ∷ v ∷ [])) (Output k) "QO"
+unfolding setting outputText
+outputs-repeat m g i k v h t =
+    repeats m g i (output-asked k (omega arith))
+    (record {
       short = omega (arith, fields-most (Name Outputs ∷ bit ∷ []) (k ∷ v ∷ []));
       command = SetOutput k (isOne v);
       parsed = λ a b. ap (λ (l : List ℕ). commandOf (a ∷ b ∷ 83 ∷ 79 ∷ l)) (output-fields k v h) ∙ output-parsed a b k v h t;
       state = withOutput (m .state) k (isOne v);
-      other = refl;
       done = refl;
       rests = i;
-      text = ap (λ (w : ℕ). printFields (Name Outputs ∷ bit ∷ []) (k ∷ w ∷ [])) (output-set (m .state) k v n h t);
-    }
+      text = ap (λ (w : ℕ). printFields (Name Outputs ∷ bit ∷ []) (k ∷ w ∷ [])) (output-set (m .state) k v (g .outputs) h t);
+    })
 
 -- ---- SC
 
@@ -195,41 +188,35 @@ unfolding commandOf commandBy isCode codeIn pairOf bytes choose camIn allGood ev
 no-cam-parsed a b =
     choose-true _ _ _ (ap (λ (p : Parsed). p .ok) (all-back (Fixed 1 0 0 ∷ []) (0 ∷ []) (a ∷ b ∷ 83 ∷ 67 ∷ []) refl refl refl))
 
-cam-sets :
-    (m : Machine) (p : ℕ) → idle (m .state) ≡ true → valid anySigned p ≡ true →
-    Setting m "SC" (printFields (bit ∷ anySigned ∷ []) (1 ∷ p ∷ [])) Cam
-unfolding bytes mostAll most carriedOut answerAt machineAfter actedAt cellsAfter isStart idle textFor camText choose
-cam-sets m p i v =
-    record {
-      x = 83;
-      y = 67;
-      letters = refl;
+pub cam-repeat :
+    (m : Machine) → Good m → idle (m .state) ≡ true → (p : ℕ) → valid anySigned p ≡ true →
+    Repeats m "SC" (printFields (bit ∷ anySigned ∷ []) (1 ∷ p ∷ [])) Cam "QC"
+unfolding setting camText
+cam-repeat m g i p v =
+    repeats m g i cam-asked
+    (record {
       short = omega (arith, fields-most (bit ∷ anySigned ∷ []) (1 ∷ p ∷ []));
       command = SetCam true p;
       parsed = λ a b. cam-parsed a b p v;
       state = withCam (m .state) (record { set = true; position = record { 0 = p } });
-      other = refl;
       done = refl;
       rests = i;
       text = refl;
-    }
+    })
 
-no-cam-sets : (m : Machine) → idle (m .state) ≡ true → Setting m "SC" (printFields (bit ∷ []) (0 ∷ [])) Cam
-unfolding bytes mostAll most carriedOut answerAt machineAfter actedAt cellsAfter isStart idle textFor camText choose
-no-cam-sets m i =
-    record {
-      x = 83;
-      y = 67;
-      letters = refl;
+pub no-cam-repeat : (m : Machine) → Good m → idle (m .state) ≡ true → Repeats m "SC" (printFields (bit ∷ []) (0 ∷ [])) Cam "QC"
+unfolding setting camText
+no-cam-repeat m g i =
+    repeats m g i cam-asked
+    (record {
       short = omega (arith, fields-most (bit ∷ []) (0 ∷ []));
       command = SetCam false 0;
       parsed = no-cam-parsed;
       state = withCam (m .state) noCam;
-      other = refl;
       done = refl;
       rests = i;
       text = refl;
-    }
+    })
 
 -- ---- WS
 
@@ -253,7 +240,7 @@ preset-parsed a b k v h t =
 
 -- each of the eight values of RS stands at its place
 resolution-at : (v : ℕ) → v < 8 → resolutionPlace (resolutionAt v) ≡ v
-unfolding resolutionPlace resolutionAt choose places
+unfolding resolutionAt choose places
 resolution-at v h =
     map-at (λ (v : ℕ). resolutionPlace (resolutionAt v)) (λ (v : ℕ). v) (member-places 8 0 v (omega arith) (omega arith)) refl
 
@@ -266,62 +253,19 @@ preset-set p (suc (suc (suc zero))) v h t = keeps-bit v (omega (arith, leb-true 
 preset-set p (suc (suc (suc (suc zero)))) v h t = keeps-bit v (omega (arith, leb-true v 1 (both-right _ _ t)))
 preset-set p (suc (suc (suc (suc (suc k))))) v h t = absurd (omega arith)
 
-length-preset : (k v : ℕ) → valid (presetKind k) v ≡ true → length (printFields (Name Presets ∷ presetKind k ∷ []) (k ∷ v ∷ [])) ≤ 59
-unfolding presetKind mostAll most
-length-preset k v t =
-    let l = fields-most (Name Presets ∷ presetKind k ∷ []) (k ∷ v ∷ []) in
-    let n : most (presetKind k) ≤ 10 =
-    choose-by Short _ (λ u. lit≤ tt) (λ u. choose-by Short _ (λ u. lit≤ tt) (λ u. choose-by Short _ (λ u. lit≤ tt) (λ u. lit≤ tt))) in
-    omega arith
-  where
-    Short : Kind → Type 0
-    Short k = most k ≤ 10
-
-preset-sets :
-    (m : Machine) (k v : ℕ) → idle (m .state) ≡ true → k < 5 → valid (presetKind k) v ≡ true →
-    Setting m "WS" (printFields (Name Presets ∷ presetKind k ∷ []) (k ∷ v ∷ [])) (Preset k)
-unfolding bytes carriedOut answerAt machineAfter actedAt cellsAfter isStart idle textFor presetText
-preset-sets m k v i h t =
-    record {
-      x = 87;
-      y = 83;
-      letters = refl;
-      short = length-preset k v t;
-      command = SetPreset (presetWith k v);
-      parsed = λ a b. preset-parsed a b k v h t;
-      state = withPresets (m .state) (presetSet (m .state .presets) (presetWith k v));
-      other = refl;
-      done = refl;
-      rests = i;
-      text = ap (λ (w : ℕ). printFields (Name Presets ∷ presetKind k ∷ []) (k ∷ w ∷ [])) (preset-set (m .state .presets) k v h t);
-    }
-
--- ---- read back
-
 pub presets-repeat :
     (m : Machine) → Good m → idle (m .state) ≡ true → (k v : ℕ) → k < 5 → valid (presetKind k) v ≡ true →
     Repeats m "WS" (printFields (Name Presets ∷ presetKind k ∷ []) (k ∷ v ∷ [])) (Preset k) "QS"
-unfolding codeFor
-presets-repeat m g i k v h t = repeats m g i "WS" _ (Preset k) (preset-asked k h) (preset-sets m k v i h t)
-
-pub position-repeat :
-    (m : Machine) → Good m → idle (m .state) ≡ true → (p : ℕ) → valid anySigned p ≡ true →
-    Repeats m "SA" (printFields (anySigned ∷ []) (p ∷ [])) Position "QA"
-unfolding codeFor
-position-repeat m g i p v = repeats m g i "SA" _ Position position-asked (position-sets m p i v)
-
-pub outputs-repeat :
-    (m : Machine) → Good m → idle (m .state) ≡ true → (k v : ℕ) → k < 13 → valid bit v ≡ true →
-    Repeats m "SO" (printFields (Name Outputs ∷ bit ∷ []) (k ∷ v ∷ [])) (Output k) "QO"
-unfolding codeFor
-outputs-repeat m g i k v h t = repeats m g i "SO" _ (Output k) (output-asked k (omega arith)) (output-sets m k v (g .outputs) i h t)
-
-pub cam-repeat :
-    (m : Machine) → Good m → idle (m .state) ≡ true → (p : ℕ) → valid anySigned p ≡ true →
-    Repeats m "SC" (printFields (bit ∷ anySigned ∷ []) (1 ∷ p ∷ [])) Cam "QC"
-unfolding codeFor
-cam-repeat m g i p v = repeats m g i "SC" _ Cam cam-asked (cam-sets m p i v)
-
-pub no-cam-repeat : (m : Machine) → Good m → idle (m .state) ≡ true → Repeats m "SC" (printFields (bit ∷ []) (0 ∷ [])) Cam "QC"
-unfolding codeFor
-no-cam-repeat m g i = repeats m g i "SC" _ Cam cam-asked (no-cam-sets m i)
+unfolding setting presetText
+presets-repeat m g i k v h t =
+    let few = preset-kinds (λ (j : Kind). most j ≤ 10) (lit≤ tt) (lit≤ tt) (lit≤ tt) (lit≤ tt) k in
+    repeats m g i (preset-asked k h)
+    (record {
+      short = omega (arith, fields-most (Name Presets ∷ presetKind k ∷ []) (k ∷ v ∷ []));
+      command = SetPreset (presetWith k v);
+      parsed = λ a b. preset-parsed a b k v h t;
+      state = withPresets (m .state) (presetSet (m .state .presets) (presetWith k v));
+      done = refl;
+      rests = i;
+      text = ap (λ (w : ℕ). printFields (Name Presets ∷ presetKind k ∷ []) (k ∷ w ∷ [])) (preset-set (m .state .presets) k v h t);
+    })

@@ -6,7 +6,7 @@ use native.Mathlib.Omega.{arith}
 use mathlib.Core.Path.{_≡_, refl, ap, sym, _∙_}
 use mathlib.Core.Bool.{true}
 use mathlib.Core.Logic.{_⊎_, inl, inr, ⊎-elim}
-use mathlib.Core.List.{List, [], _∷_, _++_}
+use mathlib.Core.List.{List, [], _∷_, _++_, append-assoc}
 use lib.Dec.{ltb}
 use lib.ListN.{length, getD, set}
 use lib.Seq.{getD-set-same}
@@ -64,15 +64,14 @@ unfolding answerTo codeFor textFor memoryText
 read-back m k c g i h e =
     look-ask (Cell k) m (cell-asked k h) g i ∙ ap (λ (x : Content). showing m k (cellText x)) e
 
--- a string at an address, with its first bytes
-pub string-code :
-    (code : String) (x y : ℕ) → bytes code ≡ x ∷ y ∷ [] → (aa : ℕ) (t : List ℕ) → answerOf (inString aa) code t ≡ string (addressedTo aa (x ∷ y ∷ t))
+-- a string at an address, with its code
+pub string-code : (code : String) (aa : ℕ) (t : List ℕ) → answerOf (inString aa) code t ≡ string (addressedTo aa (bytes code ++ t))
 unfolding answerOf
-string-code code x y e aa t = digits-front aa _ ∙ ap (λ (c : List ℕ). addressedTo aa (c ++ string t)) e
+string-code code aa t = digits-front aa _ ∙ ap (addressedTo aa) (sym (append-assoc (bytes code) t (13 ∷ [])))
 
 pub string-store : (aa : ℕ) (t : List ℕ) → answerOf (inString aa) "WN" t ≡ string (addressedTo aa (87 ∷ 78 ∷ t))
 unfolding bytes
-string-store = string-code "WN" 87 78 refl
+string-store = string-code "WN"
 
 pub body-store : (aa : ℕ) (t : List ℕ) → bodyOf (answerOf (inString aa) "WN" t) ≡ addressedTo aa (87 ∷ 78 ∷ t)
 body-store aa t = ap bodyOf (string-store aa t) ∙ body-string (addressedTo aa (87 ∷ 78 ∷ t))

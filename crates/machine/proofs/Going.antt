@@ -13,7 +13,7 @@ use Rattle.units.specs.declared.CellAddress.{CellAddress}
 use Rattle.instruction.specs.declared.Cell.{Cell}
 use Rattle.instruction.specs.declared.Instruction.{Instruction}
 use Rattle.machine.specs.Record.{cellAt, noFault, nothingSuspended, withSuspended, withRunning, stopped}
-use Rattle.machine.specs.Soundness.{isCell, faultSound, loopCountSound, isNothing, suspendedRest, suspendedSound, hasPhase, busyRest, markSound, isWaiting, restingSound, runningSound}
+use Rattle.machine.specs.Soundness.{isCell, faultSound, loopCountSound, isNothing, suspendedRemaining, suspendedSound, hasPhase, busyRemaining, atSpeedSound, restingSound, runningSound}
 use Rattle.machine.specs.Starting.{waitingAt, started, advanced, failed}
 use Rattle.machine.specs.Milliseconds.{present}
 use Rattle.machine.specs.Stopping.{suspendedOf, interrupted, abandoned}
@@ -29,7 +29,7 @@ use Rattle.machine.proofs.Parts.{Parts, fault-sound, suspended-sound, r
 module _ {cells : List Cell} {s : State} (g : Parts cells s) where
   -- 01: "Idle, these five are zero"
   pub stopped-sound : Parts cells (stopped s)
-  unfolding runningSound choose restingSound both isWaiting isNothing
+  unfolding runningSound choose restingSound both isNothing
   stopped-sound = running-sound g _ refl
 
   -- at a cell that is not yet taken, with the mark clear
@@ -42,8 +42,8 @@ module _ {cells : List Cell} {s : State} (g : Parts cells s) where
             cell = c;
             loops = l;
             phase = unfold hasPhase in refl;
-            rest = unfold busyRest isNothing in refl;
-            mark = unfold markSound in refl;
+            remaining = unfold busyRemaining isNothing in refl;
+            speed = unfold atSpeedSound in refl;
           }
 
   -- 01: "Next 000 ends: idle." The loop count may have changed before.
@@ -97,7 +97,7 @@ failed-sound g c code z l h =
 -- 01: "the record is cell, rest .., loop count"
 pub interrupted-sound :
     {cells : List Cell} {s : State} → Parts cells s → isCell (s .running .cell) ≡ true → loopCountSound (s .running .loops) ≡ true →
-    suspendedRest (s .running .remaining) (present cells s .instruction) ≡ true → Parts cells (interrupted s)
+    suspendedRemaining (s .running .remaining) (present cells s .instruction) ≡ true → Parts cells (interrupted s)
 unfolding suspendedSound present
 interrupted-sound {s = s} g c l r =
     stopped-sound (suspended-sound g (suspendedOf (s .running)) (choose-false _ _ _ (cell-nonzero _ c) ∙ both-true c (both-true l r)))

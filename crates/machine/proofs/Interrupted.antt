@@ -21,7 +21,7 @@ use Rattle.fields.specs.Rows.{printFields, allGood, allValid}
 use Rattle.fields.proofs.RoundTrip.{print-injective}
 use Rattle.fields.specs.declared.kinds.Kind.{Kind}
 use Rattle.fields.specs.declared.kinds.Kind.the-variants.{Count}
-use Rattle.units.specs.Limits.{loopLimit, restLimit}
+use Rattle.units.specs.Limits.{loopLimit, remainingLimit}
 use Rattle.units.specs.Bits.{stepsOf, bitsOf}
 use Rattle.units.specs.Remaining.{isZeroOf}
 use Rattle.units.proofs.Integers.{sfits-natAbs}
@@ -35,7 +35,7 @@ use Rattle.instruction.specs.declared.Cell.{Cell}
 use Rattle.instruction.specs.declared.Instruction.{Instruction}
 use Rattle.instruction.specs.declared.Instruction.the-variants.{TimeDelay}
 use Rattle.machine.specs.Record.{cellAt, nothingSuspended}
-use Rattle.machine.specs.Soundness.{isCell, loopCountSound, stepsRest, timeRest, isIndexed, isDelay, suspendedRest, suspendedSound}
+use Rattle.machine.specs.Soundness.{isCell, loopCountSound, stepsRemaining, timeRemaining, isIndexed, isDelay, suspendedRemaining, suspendedSound}
 use Rattle.machine.specs.Commands.{anySigned}
 use Rattle.machine.specs.Answers.{remainingBits, suspendedText}
 use Rattle.machine.specs.declared.Remaining.{Remaining}
@@ -48,48 +48,48 @@ use Rattle.machine.proofs.Showing.{within-valid, signed-valid}
 
 -- ---- a rest and its bits
 
-steps-fit : (n : Steps) → stepsRest n ≡ true → SFits w32 (n .0)
-unfolding stepsRest
-steps-fit n h = sfits-natAbs w32 (n .0) restLimit (leb-true _ _ (both-left _ _ h)) (lit< tt)
+steps-fit : (n : Steps) → stepsRemaining n ≡ true → SFits w32 (n .0)
+unfolding stepsRemaining
+steps-fit n h = sfits-natAbs w32 (n .0) remainingLimit (leb-true _ _ (both-left _ _ h)) (lit< tt)
 
-steps-not-zero : (n : Steps) → stepsRest n ≡ true → bitsOf n ≡ 0 → ⊥
-unfolding stepsRest isZeroOf
+steps-not-zero : (n : Steps) → stepsRemaining n ≡ true → bitsOf n ≡ 0 → ⊥
+unfolding stepsRemaining isZeroOf
 steps-not-zero n h e =
     let z : eqb (natAbs (n .0)) 0 ≡ true = sym (ofZ-zero (n .0) (steps-fit n h)) ∙ eq-eqb _ _ e in
     let f : not (eqb (natAbs (n .0)) 0) ≡ true = both-right _ _ h in
     clash (ap not (sym z) ∙ f)
 
-time-least : (n : Milliseconds) → timeRest n ≡ true → (1 ≤ n .0) × (n .0 ≤ restLimit)
-unfolding timeRest
+time-least : (n : Milliseconds) → timeRemaining n ≡ true → (1 ≤ n .0) × (n .0 ≤ remainingLimit)
+unfolding timeRemaining
 time-least n h = (leb-true _ _ (both-left _ _ h), leb-true _ _ (both-right _ _ h))
 
 -- no instruction is both an indexed run and a time delay
-steps-or-time : (i : Instruction) (n : Steps) (t : Milliseconds) → suspendedRest (Counted n) i ≡ true → suspendedRest (Timed t) i ≡ true → ⊥
-unfolding suspendedRest isDelay isIndexed profileOf codeOf
+steps-or-time : (i : Instruction) (n : Steps) (t : Milliseconds) → suspendedRemaining (Counted n) i ≡ true → suspendedRemaining (Timed t) i ≡ true → ⊥
+unfolding suspendedRemaining isDelay isIndexed profileOf codeOf
 steps-or-time i n t g h =
     clash (sym (indexed-same i (TimeDelay t) (eqb-true (codeOf i) 65 (both-left _ _ h))) ∙ both-left _ _ g)
 
 -- the cell's code tells the unit of a rest
-rest-same :
-    (i : Instruction) (a b : Remaining) → suspendedRest a i ≡ true → suspendedRest b i ≡ true → remainingBits a ≡ remainingBits b → a ≡ b
-unfolding suspendedRest remainingBits
-rest-same i Nothing Nothing g h e = refl
-rest-same i Nothing (Counted n) g h e = absurd (steps-not-zero n (both-right _ _ h) (sym e))
-rest-same i Nothing (Timed t) g h e = absurd (omega (arith, time-least t (both-right _ _ h)))
-rest-same i (Counted n) Nothing g h e = absurd (steps-not-zero n (both-right _ _ g) e)
-rest-same i (Counted n) (Counted k) g h e =
+remaining-same :
+    (i : Instruction) (a b : Remaining) → suspendedRemaining a i ≡ true → suspendedRemaining b i ≡ true → remainingBits a ≡ remainingBits b → a ≡ b
+unfolding suspendedRemaining remainingBits
+remaining-same i Nothing Nothing g h e = refl
+remaining-same i Nothing (Counted n) g h e = absurd (steps-not-zero n (both-right _ _ h) (sym e))
+remaining-same i Nothing (Timed t) g h e = absurd (omega (arith, time-least t (both-right _ _ h)))
+remaining-same i (Counted n) Nothing g h e = absurd (steps-not-zero n (both-right _ _ g) e)
+remaining-same i (Counted n) (Counted k) g h e =
     ap Counted
     (sym (steps-bits n (steps-fit n (both-right _ _ g))) ∙ ap stepsOf e ∙ steps-bits k (steps-fit k (both-right _ _ h)))
-rest-same i (Counted n) (Timed t) g h e = absurd (steps-or-time i n t g h)
-rest-same i (Timed t) Nothing g h e = absurd (omega (arith, time-least t (both-right _ _ g)))
-rest-same i (Timed t) (Counted n) g h e = absurd (steps-or-time i n t h g)
-rest-same i (Timed t) (Timed u) g h e = λ j. Timed (record { 0 = e j })
+remaining-same i (Counted n) (Timed t) g h e = absurd (steps-or-time i n t g h)
+remaining-same i (Timed t) Nothing g h e = absurd (omega (arith, time-least t (both-right _ _ g)))
+remaining-same i (Timed t) (Counted n) g h e = absurd (steps-or-time i n t h g)
+remaining-same i (Timed t) (Timed u) g h e = λ j. Timed (record { 0 = e j })
 
-rest-bits : (a : Remaining) (i : Instruction) → suspendedRest a i ≡ true → remainingBits a < 2 ^ 32
-unfolding suspendedRest remainingBits
-rest-bits Nothing i h = omega arith
-rest-bits (Counted n) i h = fits-ofZ (steps-fit n (both-right _ _ h)) .fits
-rest-bits (Timed t) i h = omega (arith, time-least t (both-right _ _ h))
+remaining-bits : (a : Remaining) (i : Instruction) → suspendedRemaining a i ≡ true → remainingBits a < 2 ^ 32
+unfolding suspendedRemaining remainingBits
+remaining-bits Nothing i h = omega arith
+remaining-bits (Counted n) i h = fits-ofZ (steps-fit n (both-right _ _ h)) .fits
+remaining-bits (Timed t) i h = omega (arith, time-least t (both-right _ _ h))
 
 -- ---- the record
 
@@ -107,7 +107,7 @@ empty-is cells r h t =
 record Held (cells : List Cell) (r : Suspended) : Type 0 where
   cell : isCell (r .cell) ≡ true
   count : r .loops ≤ loopLimit
-  rest : suspendedRest (r .remaining) (cellAt cells (r .cell) .instruction) ≡ true
+  remaining : suspendedRemaining (r .remaining) (cellAt cells (r .cell) .instruction) ≡ true
 
 held-is : (cells : List Cell) (r : Suspended) → suspendedSound cells r ≡ true → eqb (r .cell .0) 0 ≡ false → Held cells r
 unfolding suspendedSound loopCountSound
@@ -116,7 +116,7 @@ held-is cells r h f =
     record {
       cell = both-left _ _ g;
       count = leb-true _ _ (second _ _ _ g);
-      rest = both-right _ _ (both-right _ _ g);
+      remaining = both-right _ _ (both-right _ _ g);
     }
 
 abbrev heldKinds : List Kind
@@ -129,7 +129,7 @@ held-valid : (cells : List Cell) (r : Suspended) → Held cells r → allValid h
 unfolding allValid valid isCell
 held-valid cells r h =
     both-true (h .cell)
-    (both-true (signed-valid _ (rest-bits _ _ (h .rest))) (both-true (within-valid _ _ (h .count)) refl))
+    (both-true (signed-valid _ (remaining-bits _ _ (h .remaining))) (both-true (within-valid _ _ (h .count)) refl))
 
 held-same :
     (cells : List Cell) (r q : Suspended) → Held cells r → Held cells q →
@@ -142,8 +142,8 @@ held-same cells r q g h e =
     let b : remainingBits (r .remaining) ≡ remainingBits (q .remaining) = cc in
     let n : r .loops ≡ q .loops = cc in
     let a : r .remaining ≡ q .remaining =
-    rest-same (cellAt cells (r .cell) .instruction) _ _ (g .rest)
-    (ap (λ (x : ℕ). suspendedRest (q .remaining) (cellAt cells (record { 0 = x }) .instruction)) c ∙ h .rest) b in
+    remaining-same (cellAt cells (r .cell) .instruction) _ _ (g .remaining)
+    (ap (λ (x : ℕ). suspendedRemaining (q .remaining) (cellAt cells (record { 0 = x }) .instruction)) c ∙ h .remaining) b in
     λ j. record { cell = record { 0 = c j }; remaining = a j; loops = n j }
 
 -- the text of an empty record is shorter than any other's

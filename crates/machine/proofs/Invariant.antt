@@ -75,7 +75,7 @@ good-fresh a h =
       count = refl;
       inputs = refl;
       outputs = refl;
-      state = unfold stateSound presetsSound positionSound camSound faultSound suspendedSound runningSound restingSound isWaiting isNothing in
+      state = unfold stateSound presetsSound positionSound camSound faultSound suspendedSound runningSound restingSound isNothing in
           both-true (both-true (le-leb a 47 h) refl) refl;
     }
 
@@ -137,7 +137,6 @@ refused-whole c m = choose-by (Same m) (sound m) (λ t. act-same c m) (λ t n. r
 -- ---- idle
 
 waiting-is : (p : Phase) → isWaiting p ≡ true → p ≡ Waiting
-unfolding isWaiting
 waiting-is Waiting t = refl
 waiting-is Delay t = clash t
 waiting-is Run t = clash t
@@ -161,8 +160,8 @@ idle-rests m g t =
     let phase = waiting-is (m .state .running .phase) (both-left _ _ u) in
     let remaining = nothing-is (m .state .running .remaining) (second _ _ _ u) in
     let loops = eqb-true (m .state .running .loops) 0 (third _ _ _ _ u) in
-    let mark = not-true (m .state .running .«at_speed») (both-right _ _ (both-right _ _ (both-right _ _ u))) in
-    λ i. record { cell = record { 0 = cell i }; phase = phase i; remaining = remaining i; loops = loops i; «at_speed» = mark i }
+    let speed = not-true (m .state .running .«at_speed») (both-right _ _ (both-right _ _ (both-right _ _ u))) in
+    λ i. record { cell = record { 0 = cell i }; phase = phase i; remaining = remaining i; loops = loops i; «at_speed» = speed i }
 
 -- ---- the statement
 

@@ -1,11 +1,11 @@
--- Tables of cases: Starred, Worked; Computing (the definitions opened for them).
--- What soundness says: Cells (of a cell and its run), Parts (of a state, part by part), Rests (of what remains of a run or a delay),
+-- Tables of cases: Starred, Worked; Computing (the definitions opened for them), Delays (a wait through a delay, for a case with long ones).
+-- What soundness says: Cells (of a cell and its run), Parts (of a state, part by part), RemainingCounts (of what remains of a run or a delay),
 -- Places (of the places of the memory that a drive names).
 -- What keeps a state sound: Going (what events are made of), Taking (each code), Milliseconds (and waits), Stopping (stops and PX),
 -- Reports (at-speed and halted), Stepping, Inputs. Words: an inputs word needs only the cell that was present before it.
 -- What keeps a drive sound: Ranges (what a string asks for), Storing (a cell), Hearing (a string), Invariant (every call: the theorem).
 -- Waits: a wait gives the least number of milliseconds. Tests: laws of tests and lists that are not particular to the drive.
--- What a drive answers: Addressing (strings at its own address and at another's), Requests (the 165, parsed in one computed test), Answering (the
+-- What a drive answers: Addressing (strings at its own address and at another's), Requests (the 165, and what each is parsed as), Answering (the
 -- answer to each). Members: members of lists.
 -- What an answer shows: Texts (from a text to its values), Showing (the parts of the state), Interrupted (the interrupted record), Readings (equal
 -- readings are readings of equal drives). WritingBack: a cell's answer sent back changes nothing. Demand: demand 3, the theorem.
@@ -14,11 +14,12 @@
 -- Demand2: demand 2, the theorem.
 mod Computing
 mod Starred
+mod Delays
 mod Worked
 mod Tests
 pub mod Cells
 pub mod Parts
-pub mod Rests
+pub mod RemainingCounts
 pub mod Places
 mod Going
 mod Taking

@@ -1,13 +1,11 @@
 -- Members of lists, and what a map or a test says of each.
 -- Assumes nothing.
 use Prim.Native.Nat.{ℕ, zero, suc, _+_, _≤_, _<_}
-use native.Mathlib.Nat.{not-suc-le-zero, le-of-suc-le-suc}
 use native.Mathlib.Decide.{ℕ-discrete}
 use native.Mathlib.Omega.{arith}
 use mathlib.Core.Path.{_≡_, refl, ap, sym, _∙_}
 use mathlib.Core.Bool.{Bool, true}
 use mathlib.Core.List.{List, [], _∷_, _++_, map, List·Memᴰ, List·Memᴰ·head, List·Memᴰ·tail, head-eq-of-cons-eq, tail-eq-of-cons-eq}
-use lib.ListN.{length, getD}
 use Rattle.laws.specs.Tables.{every}
 use Rattle.laws.proofs.Tests.{both-left, both-right, both-true}
 use Rattle.machine.specs.Reading.{places}
@@ -16,6 +14,20 @@ use Rattle.machine.specs.Reading.{places}
 pub map-at {ℓ κ} : {A : Type ℓ} {B : Type κ} (f g : A → B) {r : A} {l : List A} → List·Memᴰ r l → map f l ≡ map g l → f r ≡ g r
 map-at f g (List·Memᴰ·head e) p = ap f e ∙ head-eq-of-cons-eq p ∙ ap g (sym e)
 map-at f g (List·Memᴰ·tail m) p = map-at f g m (tail-eq-of-cons-eq p)
+
+-- two maps that agree on two lists agree on both joined
+pub map-append-same {ℓ κ} :
+    {A : Type ℓ} {B : Type κ} (f g : A → B) (a b : List A) → map f a ≡ map g a → map f b ≡ map g b → map f (a ++ b) ≡ map g (a ++ b)
+map-append-same f g [] b p q = q
+map-append-same f g (x ∷ a) b p q = cc (map-append-same f g a b (tail-eq-of-cons-eq p) q)
+
+-- two maps that agree on each of n things from the k-th on
+pub map-places {ℓ κ} :
+    {A : Type ℓ} {B : Type κ} (f g : A → B) (kind : ℕ → A) (n k : ℕ) → ((i : ℕ) → i < k + n → f (kind i) ≡ g (kind i)) →
+    map f (map kind (places n k)) ≡ map g (map kind (places n k))
+unfolding places
+map-places f g kind zero k h = refl
+map-places f g kind (suc n) k h = cc (h k (omega arith), map-places f g kind n (suc k) (λ i l. h i (omega arith)))
 
 -- a test that passes on a list passes on each member
 pub every-member {ℓ} : {A : Type ℓ} (f : A → Bool) {r : A} {l : List A} → List·Memᴰ r l → every f l ≡ true → f r ≡ true
@@ -34,11 +46,6 @@ pub every-append {ℓ} : {A : Type ℓ} (f : A → Bool) (a b : List A) → ever
 unfolding every
 every-append f [] b g h = h
 every-append f (x ∷ a) b g h = both-true (both-left _ _ g) (every-append f a b (both-right _ _ g) h)
-
-pub member-at {ℓ} : {A : Type ℓ} (l : List A) (k : ℕ) (d : A) → k < length l → List·Memᴰ (getD l k d) l
-member-at [] k d h = absurd (not-suc-le-zero h)
-member-at (x ∷ xs) zero d h = List·Memᴰ·head refl
-member-at (x ∷ xs) (suc k) d h = List·Memᴰ·tail (member-at xs k d (le-of-suc-le-suc h))
 
 -- n places from k on
 pub member-places : (n k i : ℕ) → k ≤ i → i < k + n → List·Memᴰ i (places n k)

@@ -12,7 +12,7 @@ use Rattle.instruction.specs.declared.Cell.{Cell}
 use Rattle.instruction.specs.declared.run.Motion.{Motion}
 use Rattle.instruction.specs.declared.run.Motion.the-variants.{NoRun, IndexedRun, FreeRun, SearchRun, DelayedStopRun}
 use Rattle.machine.specs.Record.{cellAt, idle}
-use Rattle.machine.specs.Soundness.{isCell, loopCountSound, isSteps, isTime, isIndexed, suspendedRest, suspendedSound, runPhase, hasPhase, busyRest, markSound}
+use Rattle.machine.specs.Soundness.{isCell, loopCountSound, isSteps, isTime, isIndexed, suspendedRemaining, suspendedSound, runPhase, hasPhase, busyRemaining, atSpeedSound}
 use Rattle.machine.specs.Milliseconds.{present, held, countDown, millisecondIn, millisecondAt, millisecond}
 use Rattle.machine.specs.Taking.{resume, restored, recover, takeCell}
 use Rattle.machine.specs.Waiting.{settled, waitFrom, wait}
@@ -23,7 +23,7 @@ use Rattle.machine.specs.declared.Phase.the-variants.{Waiting, Delay, Ru
 use Rattle.machine.specs.declared.State.{State}
 use Rattle.machine.proofs.Tests.{clash, second}
 use Rattle.machine.proofs.Cells.{Memory}
-use Rattle.machine.proofs.Rests.{time-sound, time-within}
+use Rattle.machine.proofs.RemainingCounts.{time-sound, time-within}
 use Rattle.machine.proofs.Parts.{Parts, BusyIn, running-busy}
 use Rattle.machine.proofs.Going.{stopped-sound, waiting-sound, phase-sound, goes-on, failed-sound, emptied-sound}
 use Rattle.machine.proofs.Taking.{entered-sound, run-begun, take-sound}
@@ -40,9 +40,9 @@ module _ {cells : List Cell} (m : Memory cells) {s : State} (g : Parts cells s) 
   -- 01, of 69: "resumed in the same millisecond, with its rest as shift or delay .., or taken anew if rest is 0"
   resume-sound :
       (c : isCell (s .suspended .cell) ≡ true) (l : loopCountSound (s .suspended .loops) ≡ true) (r : Remaining) →
-      suspendedRest r (cellAt cells (s .suspended .cell) .instruction) ≡ true →
+      suspendedRemaining r (cellAt cells (s .suspended .cell) .instruction) ≡ true →
       Parts cells (resume r (restored s) (cellAt cells (s .suspended .cell)))
-  unfolding resume present suspendedRest hasPhase busyRest isSteps isTime markSound
+  unfolding resume present suspendedRemaining hasPhase busyRemaining isSteps isTime atSpeedSound
   resume-sound c l Nothing t = take-sound (waiting-sound (emptied-sound g) _ _ c l) c l m
   resume-sound c l (Counted n) t =
       let q = waiting-sound (emptied-sound g) _ _ c l in
@@ -60,7 +60,7 @@ module _ {cells : List Cell} (m : Memory cells) {s : State} (g : Parts cells s) 
       resume-sound (both-left _ _ u) (second _ _ _ u) (s .suspended .remaining) (both-right _ _ (both-right _ _ u)))
 
   delay-sound : (r : Remaining) → isTime r ≡ true → BusyIn cells s Delay → Parts cells (countDown r s (present cells s .next))
-  unfolding countDown isTime busyRest
+  unfolding countDown isTime busyRemaining
   delay-sound Nothing t b = g
   delay-sound (Counted n) t b = g
   delay-sound (Timed n) t b =
@@ -71,14 +71,14 @@ module _ {cells : List Cell} (m : Memory cells) {s : State} (g : Parts cells s) 
         cell = b .cell;
         loops = b .loops;
         phase = b .phase;
-        rest = time-sound (n .0 - 1) (omega (arith, leb-false)) (omega arith);
-        mark = b .mark;
+        remaining = time-sound (n .0 - 1) (omega (arith, leb-false)) (omega arith);
+        speed = b .speed;
       }) refl)
 
   millisecond-in : (p : Phase) → BusyIn cells s p → Parts cells (millisecondIn p s (present cells s) (held cells s))
-  unfolding millisecondIn takeCell busyRest
+  unfolding millisecondIn takeCell busyRemaining
   millisecond-in Waiting b = choose-by (Parts cells) _ (λ t. recover-sound) (λ t. take-sound g (b .cell) (b .loops) m)
-  millisecond-in Delay b = delay-sound (s .running .remaining) (b .rest) b
+  millisecond-in Delay b = delay-sound (s .running .remaining) (b .remaining) b
   millisecond-in Run b = g
   millisecond-in Braking b = g
   millisecond-in Slowing b = g

@@ -12,8 +12,8 @@ use Rattle.instruction.specs.Runs.{profileOf}
 use Rattle.instruction.specs.declared.Cell.{Cell}
 use Rattle.instruction.specs.declared.Instruction.{Instruction}
 use Rattle.instruction.specs.declared.run.Profile.{Profile}
-use Rattle.machine.specs.Record.{cellAt, withPresets, withPosition, withInputs, withOutputs, withCam, withFault, withSuspended, withRunning, withState, idle}
-use Rattle.machine.specs.Soundness.{presetsSound, isCell, positionSound, camSound, faultSound, loopCountSound, suspendedSound, hasPhase, busyRest, markSound, isWaiting, restingSound, busySound, runningSound, stateSound}
+use Rattle.machine.specs.Record.{cellAt, stateOf, withPresets, withPosition, withInputs, withOutputs, withCam, withFault, withSuspended, withRunning, withState, idle}
+use Rattle.machine.specs.Soundness.{presetsSound, isCell, positionSound, camSound, faultSound, loopCountSound, suspendedSound, hasPhase, busyRemaining, atSpeedSound, isWaiting, restingSound, busySound, runningSound, stateSound}
 use Rattle.machine.specs.Milliseconds.{present}
 use Rattle.machine.specs.declared.Presets.{Presets}
 use Rattle.machine.specs.declared.Cam.{Cam}
@@ -60,111 +60,39 @@ state-parts cells s i o t =
       running = both-right _ _ (both-right _ _ (both-right _ _ (both-right _ _ (both-right _ _ t))));
     }
 
+-- a state by its parts, in the order of the record
+pub parts-of :
+    {cells : List Cell} {p : Presets} {x : Position} {i o : List Bool} {c : Cam} {f : Fault} {h : Suspended} {r : Running} →
+    presetsSound p ≡ true → positionSound x ≡ true → length i ≡ 11 → length o ≡ 14 → camSound c ≡ true → faultSound f ≡ true →
+    suspendedSound cells h ≡ true → runningSound cells r ≡ true → Parts cells (stateOf p x i o c f h r)
+parts-of p x i o c f h r =
+    record { presets = p; position = x; inputs = i; outputs = o; cam = c; fault = f; suspended = h; running = r }
+
 -- one part replaced
 module _ {cells : List Cell} {s : State} (g : Parts cells s) where
   pub presets-sound : (x : Presets) → presetsSound x ≡ true → Parts cells (withPresets s x)
-  presets-sound x t =
-      record {
-        presets = t;
-        position = g .position;
-        inputs = g .inputs;
-        outputs = g .outputs;
-        cam = g .cam;
-        fault = g .fault;
-        suspended = g .suspended;
-        running = g .running;
-      }
+  presets-sound x t = parts-of t (g .position) (g .inputs) (g .outputs) (g .cam) (g .fault) (g .suspended) (g .running)
 
   pub position-sound : (x : Position) → positionSound x ≡ true → Parts cells (withPosition s x)
-  position-sound x t =
-      record {
-        presets = g .presets;
-        position = t;
-        inputs = g .inputs;
-        outputs = g .outputs;
-        cam = g .cam;
-        fault = g .fault;
-        suspended = g .suspended;
-        running = g .running;
-      }
+  position-sound x t = parts-of (g .presets) t (g .inputs) (g .outputs) (g .cam) (g .fault) (g .suspended) (g .running)
 
   pub inputs-sound : (x : List Bool) → length x ≡ 11 → Parts cells (withInputs s x)
-  inputs-sound x t =
-      record {
-        presets = g .presets;
-        position = g .position;
-        inputs = t;
-        outputs = g .outputs;
-        cam = g .cam;
-        fault = g .fault;
-        suspended = g .suspended;
-        running = g .running;
-      }
+  inputs-sound x t = parts-of (g .presets) (g .position) t (g .outputs) (g .cam) (g .fault) (g .suspended) (g .running)
 
   pub outputs-sound : (x : List Bool) → length x ≡ 14 → Parts cells (withOutputs s x)
-  outputs-sound x t =
-      record {
-        presets = g .presets;
-        position = g .position;
-        inputs = g .inputs;
-        outputs = t;
-        cam = g .cam;
-        fault = g .fault;
-        suspended = g .suspended;
-        running = g .running;
-      }
+  outputs-sound x t = parts-of (g .presets) (g .position) (g .inputs) t (g .cam) (g .fault) (g .suspended) (g .running)
 
   pub cam-sound : (x : Cam) → camSound x ≡ true → Parts cells (withCam s x)
-  cam-sound x t =
-      record {
-        presets = g .presets;
-        position = g .position;
-        inputs = g .inputs;
-        outputs = g .outputs;
-        cam = t;
-        fault = g .fault;
-        suspended = g .suspended;
-        running = g .running;
-      }
+  cam-sound x t = parts-of (g .presets) (g .position) (g .inputs) (g .outputs) t (g .fault) (g .suspended) (g .running)
 
   pub fault-sound : (x : Fault) → faultSound x ≡ true → Parts cells (withFault s x)
-  fault-sound x t =
-      record {
-        presets = g .presets;
-        position = g .position;
-        inputs = g .inputs;
-        outputs = g .outputs;
-        cam = g .cam;
-        fault = t;
-        suspended = g .suspended;
-        running = g .running;
-      }
+  fault-sound x t = parts-of (g .presets) (g .position) (g .inputs) (g .outputs) (g .cam) t (g .suspended) (g .running)
 
   pub suspended-sound : (x : Suspended) → suspendedSound cells x ≡ true → Parts cells (withSuspended s x)
-  suspended-sound x t =
-      record {
-        presets = g .presets;
-        position = g .position;
-        inputs = g .inputs;
-        outputs = g .outputs;
-        cam = g .cam;
-        fault = g .fault;
-        suspended = t;
-        running = g .running;
-      }
+  suspended-sound x t = parts-of (g .presets) (g .position) (g .inputs) (g .outputs) (g .cam) (g .fault) t (g .running)
 
   pub running-sound : (x : Running) → runningSound cells x ≡ true → Parts cells (withRunning s x)
-  running-sound x t =
-      record {
-        presets = g .presets;
-        position = g .position;
-        inputs = g .inputs;
-        outputs = g .outputs;
-        cam = g .cam;
-        fault = g .fault;
-        suspended = g .suspended;
-        running = t;
-      }
+  running-sound x t = parts-of (g .presets) (g .position) (g .inputs) (g .outputs) (g .cam) (g .fault) (g .suspended) t
 
 -- ---- a busy state
 
@@ -173,8 +101,8 @@ pub record Busy (i : Instruction) (a : CellAddress) (p : Phase) (r : Remaining) 
   pub cell : isCell a ≡ true
   pub loops : loopCountSound n ≡ true
   pub phase : hasPhase p i ≡ true
-  pub rest : busyRest p (profileOf i) r ≡ true
-  pub mark : markSound p (profileOf i) k ≡ true
+  pub remaining : busyRemaining p (profileOf i) r ≡ true
+  pub speed : atSpeedSound p (profileOf i) k ≡ true
 
 -- the run of the present cell
 abbrev pub runOf : List Cell → State → Profile
@@ -192,7 +120,7 @@ pub busy-running :
 unfolding runningSound busySound
 busy-running cells {a = a} b e =
     choose-false _ _ _ (cell-nonzero a (b .cell))
-    ∙ rw e (both-true (b .cell) (both-true (b .loops) (both-true (b .phase) (both-true (b .rest) (b .mark)))))
+    ∙ rw e (both-true (b .cell) (both-true (b .loops) (both-true (b .phase) (both-true (b .remaining) (b .speed)))))
 
 -- a sound state that is not idle
 pub running-busy : {cells : List Cell} {s : State} → Parts cells s → idle s ≡ false → BusyIn cells s (s .running .phase)
@@ -203,8 +131,8 @@ running-busy g f =
       cell = both-left _ _ t;
       loops = second _ _ _ t;
       phase = third _ _ _ _ t;
-      rest = fourth _ _ _ _ _ t;
-      mark = both-right _ _ (both-right _ _ (both-right _ _ (both-right _ _ t)));
+      remaining = fourth _ _ _ _ _ t;
+      speed = both-right _ _ (both-right _ _ (both-right _ _ (both-right _ _ t)));
     }
 
 -- 01: "Idle, these five are zero"

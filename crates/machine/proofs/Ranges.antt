@@ -17,8 +17,8 @@ use Rattle.fields.specs.Names.{pairOf, listed, listOf}
 use Rattle.fields.specs.Kinds.{goodSigned, good, validSigned, valid}
 use Rattle.fields.specs.Rows.{parseFields, parseAll, allGood, allValid}
 use Rattle.fields.specs.declared.kinds.Kind.{Kind}
-use Rattle.fields.specs.declared.kinds.Kind.the-variants.{Optional, Name}
-use Rattle.fields.specs.declared.names.Names.the-variants.{Settable, Outputs, Inputs, Presets}
+use Rattle.fields.specs.declared.kinds.Kind.the-variants.{Optional, Count, Name}
+use Rattle.fields.specs.declared.names.Names.the-variants.{Settable, Outputs, Inputs, Presets, Resolutions}
 use Rattle.fields.specs.declared.rows.Parsed.{Parsed}
 use Rattle.fields.proofs.Validity.{fields-valid, all-valid}
 use Rattle.format.specs.Formats.{cell, bit}
@@ -117,16 +117,16 @@ store-stop : (code : ℕ) → isCode "WN" code ≡ true → isStop code ≡ fals
 unfolding isCode isStop either pairOf bytes
 store-stop code t = rw (eqb-true code _ t)
 
+-- what holds of the kind of each preset
+pub preset-kinds :
+    (P : Kind → Type 0) → P (Count 0 47) → P (Count 0 3) → P (Name Resolutions) → P (Count 0 1) → (k : ℕ) → P (presetKind k)
+unfolding presetKind
+preset-kinds P address current resolution other k =
+    choose-by P (eqb k 0) (λ t. address) (λ t. choose-by P (eqb k 1) (λ t. current) (λ t. choose-by P (eqb k 2) (λ t. resolution) (λ t. other)))
+
 pub preset-good : (k : ℕ) → allGood (presetKind k ∷ []) ≡ true
-unfolding allGood every presetKind
-preset-good k =
-    both-true
-    (choose-by Right _ (λ t. unfold good in refl)
-    (λ t. choose-by Right _ (λ u. unfold good in refl)
-    (λ u. choose-by Right _ (λ w. unfold good in refl) (λ w. unfold good in refl)))) refl
-  where
-    Right : Kind → Type 0
-    Right k = good k ≡ true
+unfolding allGood every good
+preset-good k = both-true (preset-kinds (λ (j : Kind). good j ≡ true) refl refl refl refl k) refl
 
 -- a value of a preset's kind, held in a byte
 preset-range : (k v : ℕ) → valid (presetKind k) v ≡ true → Within (presetWith k v)

@@ -1,21 +1,26 @@
--- The 165 requests: each is parsed as the command that asks for it, in one computed test.
+-- The 165 requests: each is parsed as the command that asks for it, a cell's by a law and the others in one computed test.
 -- Assumes nothing.
-use Prim.Native.Nat.{ℕ, _+_, _≤_, _<_}
+use Prim.Native.Nat.{ℕ, _+_, _<_}
 use native.Mathlib.Omega.{arith}
-use mathlib.Core.Path.{_≡_, refl, sym}
+use mathlib.Core.Path.{_≡_, refl, ap}
 use mathlib.Core.Bool.{Bool, true}
-use mathlib.Core.List.{_∷_, map, List·Memᴰ, Memᴰ·cast}
-use lib.ListN.{length, getD}
-use lib.Dec.{leb, lit≤, lit<}
+use mathlib.Core.List.{List, [], _∷_, _++_, map, List·Memᴰ, List·Memᴰ·head, List·Memᴰ·tail, Memᴰ·append-left, Memᴰ·append-right, Memᴰ·map}
+use lib.ListN.{length}
+use lib.Dec.{leb}
+use borrow.Author.Tests.{le-leb}
 use Rattle.laws.specs.Tests.{choose, both, either}
 use Rattle.laws.specs.Tables.{every}
 use Rattle.laws.specs.Text.{bytes}
+use Rattle.laws.proofs.Tests.{both-true}
 use Rattle.decimal.specs.Printing.{digits}
 use Rattle.decimal.specs.Parsing.{valueFrom, numberOf, fixedOf, within}
 use Rattle.fields.specs.Names.{pairOf, listed, listOf, placeFrom}
 use Rattle.fields.specs.Reader.{fieldLength, fieldAt}
-use Rattle.fields.specs.Kinds.{nameOf, parseField, lettersOf, printField}
-use Rattle.fields.specs.Rows.{fieldsFrom, parseFields, ended, parseAll, printFields}
+use Rattle.fields.specs.Kinds.{nameOf, parseField, lettersOf, printField, good, valid}
+use Rattle.fields.specs.Rows.{fieldsFrom, parseFields, ended, parseAll, printFields, allGood, allValid}
+use Rattle.fields.proofs.RoundTrip.{all-back}
+use Rattle.format.specs.Formats.{cell}
+use Rattle.instruction.proofs.Values.{keeps-byte}
 use Rattle.machine.specs.Commands.{codeIn, isCode, onFields, onAll, commandBy, commandOf}
 use Rattle.machine.specs.Calls.{isByte}
 use Rattle.machine.specs.Reading.{Request, places, requests, requestText}
@@ -23,7 +28,7 @@ use Rattle.machine.specs.Reading.Request.{Cell, Preset, Position, Output
 use Rattle.machine.specs.declared.commands.Command.{Command}
 use Rattle.machine.specs.declared.commands.Command.the-variants.{AskPosition, AskPreset, AskInput, AskOutput, AskCell, AskCam, AskFault}
 use Rattle.machine.specs.declared.commands.Command.the-variants.{AskSuspended}
-use Rattle.machine.proofs.Members.{map-at, member-at, member-places}
+use Rattle.machine.proofs.Members.{map-append-same, map-places, member-places}
 
 -- the command that a request is
 unfoldable pub commandFor : Request → Command
@@ -51,10 +56,23 @@ parsing : Unit {0}
 unfolding texts fields commandFor commandOf commandBy isCode codeIn onAll onFields choose both either
 parsing = tt
 
+-- n requests of a kind
+abbrev ofKind : (ℕ → Request) → ℕ → List Request
+ofKind kind n = map kind (places n 0)
+
+-- the address of a cell comes back as it was printed
+cell-parsed : (x y k : ℕ) → k < 131 → commandOf (x ∷ y ∷ requestText (Cell k)) ≡ commandFor (Cell k)
+unfolding commandFor commandOf commandBy isCode codeIn pairOf bytes choose onAll onFields requestText allGood every good both allValid valid
+cell-parsed x y k h =
+    let t = both-true (le-leb 100 (100 + k) (omega arith)) (le-leb (100 + k) 230 (omega arith)) in
+    rw (all-back (cell ∷ []) ((100 + k) ∷ []) (x ∷ y ∷ 81 ∷ 77 ∷ []) refl (both-true t refl) refl)
+    (ap (λ (a : ℕ). AskCell (record { 0 = a })) (keeps-byte (100 + k) (omega arith)))
+
 -- after any two bytes of an address, each request is the command that it stands for
 pub requests-parsed : (x y : ℕ) → map (λ (r : Request). commandOf (x ∷ y ∷ requestText r)) requests ≡ map commandFor requests
-unfolding parsing
-requests-parsed x y = refl
+unfolding requests
+requests-parsed x y =
+    map-append-same _ _ (ofKind Cell 131) _ (map-places _ _ Cell 131 0 (λ k h. cell-parsed x y k (omega arith))) (unfold parsing in refl)
 
 -- short enough for a string, and bytes
 unfoldable pub sendable : Request → Bool
@@ -66,45 +84,48 @@ requests-sendable = refl
 
 -- ---- what is asked
 
--- n requests of a kind, from a place of the list on
-asked :
-    (kind : ℕ → Request) (from n : ℕ) → from + n ≤ length requests →
-    map (λ (k : ℕ). getD requests (from + k) Position) (places n 0) ≡ map kind (places n 0) → (k : ℕ) → k < n → List·Memᴰ (kind k) requests
-asked kind from n l e k h =
-    Memᴰ·cast (sym (map-at (λ (k : ℕ). getD requests (from + k) Position) kind (member-places n 0 k (omega arith) (omega arith)) e))
-    (member-at requests (from + k) Position (omega arith))
+of-kind : (kind : ℕ → Request) (n k : ℕ) → k < n → List·Memᴰ (kind k) (ofKind kind n)
+of-kind kind n k h = Memᴰ·map kind (member-places n 0 k (omega arith) (omega arith))
+
+-- after the cells, after the presets and the position, after the outputs and the inputs
+past-cells : {r : Request} {l : List Request} → List·Memᴰ r l → List·Memᴰ r (ofKind Cell 131 ++ l)
+past-cells m = Memᴰ·append-right (ofKind Cell 131) m
+
+past-position : {r : Request} {l : List Request} → List·Memᴰ r l → List·Memᴰ r (ofKind Cell 131 ++ (ofKind Preset 5 ++ (Position ∷ l)))
+past-position m = past-cells (Memᴰ·append-right (ofKind Preset 5) (List·Memᴰ·tail m))
+
+past-inputs : {r : Request} → List·Memᴰ r (Cam ∷ Fault ∷ Suspended ∷ []) → List·Memᴰ r requests
+unfolding requests
+past-inputs m = past-position (Memᴰ·append-right (ofKind Output 14) (Memᴰ·append-right (ofKind Input 11) m))
 
 pub cell-asked : (k : ℕ) → k < 131 → List·Memᴰ (Cell k) requests
-unfolding requests places
-cell-asked = asked Cell 0 131 (lit≤ tt) refl
+unfolding requests
+cell-asked k h = Memᴰ·append-left _ (of-kind Cell 131 k h)
 
 pub preset-asked : (k : ℕ) → k < 5 → List·Memᴰ (Preset k) requests
-unfolding requests places
-preset-asked = asked Preset 131 5 (lit≤ tt) refl
+unfolding requests
+preset-asked k h = past-cells (Memᴰ·append-left _ (of-kind Preset 5 k h))
 
 pub position-asked : List·Memᴰ Position requests
-unfolding requests places
-position-asked = asked (λ k. Position) 136 1 (lit≤ tt) refl 0 (lit< tt)
+unfolding requests
+position-asked = past-cells (Memᴰ·append-right (ofKind Preset 5) (List·Memᴰ·head refl))
 
 pub output-asked : (k : ℕ) → k < 14 → List·Memᴰ (Output k) requests
-unfolding requests places
-output-asked = asked Output 137 14 (lit≤ tt) refl
+unfolding requests
+output-asked k h = past-position (Memᴰ·append-left _ (of-kind Output 14 k h))
 
 pub input-asked : (k : ℕ) → k < 11 → List·Memᴰ (Input k) requests
-unfolding requests places
-input-asked = asked Input 151 11 (lit≤ tt) refl
+unfolding requests
+input-asked k h = past-position (Memᴰ·append-right (ofKind Output 14) (Memᴰ·append-left _ (of-kind Input 11 k h)))
 
 pub cam-asked : List·Memᴰ Cam requests
-unfolding requests places
-cam-asked = asked (λ k. Cam) 162 1 (lit≤ tt) refl 0 (lit< tt)
+cam-asked = past-inputs (List·Memᴰ·head refl)
 
 pub fault-asked : List·Memᴰ Fault requests
-unfolding requests places
-fault-asked = asked (λ k. Fault) 163 1 (lit≤ tt) refl 0 (lit< tt)
+fault-asked = past-inputs (List·Memᴰ·tail (List·Memᴰ·head refl))
 
 pub suspended-asked : List·Memᴰ Suspended requests
-unfolding requests places
-suspended-asked = asked (λ k. Suspended) 164 1 (lit≤ tt) refl 0 (lit< tt)
+suspended-asked = past-inputs (List·Memᴰ·tail (List·Memᴰ·tail (List·Memᴰ·head refl)))
 
 -- 01: "165"
 length-requests : length requests ≡ 165

@@ -88,7 +88,7 @@ preset-same k s t p q e = value-same (presetKind k) _ _ (both-left _ _ (preset-g
 
 -- each value of RS has a place of its own in its list
 pub resolution-placed : (r : Resolution) → (resolutionAt (resolutionPlace r) ≡ r) × (valid (Name Resolutions) (resolutionPlace r) ≡ true)
-unfolding resolutionAt resolutionPlace choose valid listOf listed
+unfolding resolutionAt choose valid listOf listed
 resolution-placed D0 = (refl, refl)
 resolution-placed D1 = (refl, refl)
 resolution-placed D2 = (refl, refl)

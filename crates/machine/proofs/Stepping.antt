@@ -18,7 +18,7 @@ use Rattle.instruction.specs.declared.run.Motion.{Motion}
 use Rattle.instruction.specs.declared.run.Motion.the-variants.{NoRun, IndexedRun, FreeRun, SearchRun, DelayedStopRun}
 use Rattle.instruction.specs.declared.run.Profile.{Profile}
 use Rattle.machine.specs.Record.{moving, underWay}
-use Rattle.machine.specs.Soundness.{positionSound, camSound, isNothing, isSteps, isTime, isIndexed, emergencyRest, busyRest, isWaiting}
+use Rattle.machine.specs.Soundness.{positionSound, camSound, isNothing, isSteps, isTime, isIndexed, emergencyRemaining, busyRemaining, isWaiting}
 use Rattle.machine.specs.Milliseconds.{present}
 use Rattle.machine.specs.Stepping.{runsBackward, camTested, movedBy, arrivedIn, counted, stepAt, step}
 use Rattle.machine.specs.declared.Remaining.{Remaining}
@@ -28,7 +28,7 @@ use Rattle.machine.specs.declared.Phase.the-variants.{Waiting, Delay, Ru
 use Rattle.machine.specs.declared.State.{State}
 use Rattle.machine.proofs.Tests.{clash, by-test}
 use Rattle.machine.proofs.Cells.{Memory}
-use Rattle.machine.proofs.Rests.{nearer-steps, nearer-along}
+use Rattle.machine.proofs.RemainingCounts.{nearer-steps, nearer-along}
 use Rattle.machine.proofs.Parts.{Parts, position-sound, cam-sound, BusyIn, runOf, phase-busy}
 use Rattle.machine.proofs.Going.{phase-sound, goes-on, abandoned-sound}
 use Rattle.machine.proofs.Taking.{output-sound}
@@ -41,9 +41,9 @@ stepped-sound p forward = lt-ltb _ (2 ^ 32) (fits-ofZ (sfits-moved (numberOf p) 
 -- ---- what remains
 
 nearer-emergency :
-    (m : Motion) (p : Profile) (n : Steps) → emergencyRest m p (Counted n) ≡ true → isZeroOf (nearerOf n) ≡ false →
-    emergencyRest m p (Counted (nearerOf n)) ≡ true
-unfolding emergencyRest isNothing isSteps either
+    (m : Motion) (p : Profile) (n : Steps) → emergencyRemaining m p (Counted n) ≡ true → isZeroOf (nearerOf n) ≡ false →
+    emergencyRemaining m p (Counted (nearerOf n)) ≡ true
+unfolding emergencyRemaining isNothing isSteps either
 nearer-emergency NoRun p n t z = clash t
 nearer-emergency IndexedRun p n t z = nearer-steps n t z
 nearer-emergency FreeRun p n t z = clash t
@@ -51,24 +51,23 @@ nearer-emergency SearchRun p n t z = clash t
 nearer-emergency DelayedStopRun p n t z = nearer-along (p .backward) n t z
 
 -- 01: "A rest of steps has the sign of its direction and loses one at each step"
-nearer-rest :
-    (a : Phase) (p : Profile) (n : Steps) → busyRest a p (Counted n) ≡ true → isZeroOf (nearerOf n) ≡ false →
-    busyRest a p (Counted (nearerOf n)) ≡ true
-unfolding busyRest isNothing isSteps isTime
-nearer-rest Waiting p n t z = clash t
-nearer-rest Delay p n t z = clash t
-nearer-rest Run p n t z =
+nearer-remaining :
+    (a : Phase) (p : Profile) (n : Steps) → busyRemaining a p (Counted n) ≡ true → isZeroOf (nearerOf n) ≡ false →
+    busyRemaining a p (Counted (nearerOf n)) ≡ true
+unfolding busyRemaining isNothing isSteps isTime
+nearer-remaining Waiting p n t z = clash t
+nearer-remaining Delay p n t z = clash t
+nearer-remaining Run p n t z =
     by-test (isIndexed (p .motion)) (λ e. choose-true _ _ _ e ∙ nearer-steps n (sym (choose-true _ _ _ e) ∙ t) z)
     (λ e. clash (sym (choose-false _ _ _ e) ∙ t))
-nearer-rest Braking p n t z = nearer-along (p .backward) n t z
-nearer-rest Slowing p n t z = clash t
-nearer-rest EmergencySlowing p n t z = nearer-emergency (p .motion) p n t z
-nearer-rest BackOff p n t z = clash t
+nearer-remaining Braking p n t z = nearer-along (p .backward) n t z
+nearer-remaining Slowing p n t z = clash t
+nearer-remaining EmergencySlowing p n t z = nearer-emergency (p .motion) p n t z
+nearer-remaining BackOff p n t z = clash t
 
 -- ---- a step
 
 moving-busy : (p : Phase) → underWay p ≡ true → isWaiting p ≡ false
-unfolding isWaiting
 moving-busy Waiting t = clash t
 moving-busy Delay t = refl
 moving-busy Run t = refl
@@ -90,7 +89,7 @@ module _ {cells : List Cell} (m : Memory cells) {s : State} (g : Parts cells s) 
   arrived-sound BackOff b = goes-on m g b
 
   steps-counted :
-      (r : Remaining) → busyRest (s .running .phase) (runOf cells s) r ≡ true → BusyIn cells s (s .running .phase) →
+      (r : Remaining) → busyRemaining (s .running .phase) (runOf cells s) r ≡ true → BusyIn cells s (s .running .phase) →
       Parts cells (counted r s (present cells s .next))
   unfolding counted
   steps-counted Nothing t b = g
@@ -101,8 +100,8 @@ module _ {cells : List Cell} (m : Memory cells) {s : State} (g : Parts cells s) 
         cell = b .cell;
         loops = b .loops;
         phase = b .phase;
-        rest = nearer-rest (s .running .phase) _ n t z;
-        mark = b .mark;
+        remaining = nearer-remaining (s .running .phase) _ n t z;
+        speed = b .speed;
       }) refl)
   steps-counted (Timed n) t b = g
 
@@ -113,5 +112,5 @@ step-sound {cells} m {s} g t =
     let b = phase-busy g (moving-busy (s .running .phase) t) in
     let q = position-sound g _ (stepped-sound (s .position) (not (runsBackward s (present cells s)))) in
     choose-by (λ (u : State). Parts cells (counted (s .running .remaining) u (present cells s .next))) _
-    (λ u. steps-counted m (cam-sound (output-sound q _ _) _ refl) (s .running .remaining) (b .rest) b)
-    (λ u. steps-counted m q (s .running .remaining) (b .rest) b)
+    (λ u. steps-counted m (cam-sound (output-sound q _ _) _ refl) (s .running .remaining) (b .remaining) b)
+    (λ u. steps-counted m q (s .running .remaining) (b .remaining) b)

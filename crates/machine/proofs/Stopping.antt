@@ -10,7 +10,7 @@ use Rattle.instruction.specs.declared.run.Motion.{Motion}
 use Rattle.instruction.specs.declared.run.Motion.the-variants.{NoRun, IndexedRun, FreeRun, SearchRun, DelayedStopRun}
 use Rattle.instruction.specs.declared.run.Profile.{Profile}
 use Rattle.machine.specs.Record.{idle}
-use Rattle.machine.specs.Soundness.{isNothing, isSteps, isStepsAlong, isIndexed, hasRamp, brakingPhase, slowingPhase, backPhase, hasPhase, emergencyRest, busyRest, markSound, isWaiting}
+use Rattle.machine.specs.Soundness.{isNothing, isSteps, isStepsAlong, isIndexed, hasRamp, brakingPhase, slowingPhase, backPhase, hasPhase, emergencyRemaining, busyRemaining, atSpeedSound, isWaiting}
 use Rattle.machine.specs.Milliseconds.{present}
 use Rattle.machine.specs.Stopping.{freeRunStopOf, freeRunStopIn, freeRunStopAt, freeRunStop, pxInRun, pxSeenIn, pxSeenAt, pxSeen, emergencySlowed, emergencyIn, emergencyStopAt, emergencyStop}
 use Rattle.machine.specs.declared.Remaining.{Remaining}
@@ -19,15 +19,15 @@ use Rattle.machine.specs.declared.Phase.the-variants.{Waiting, Delay, Ru
 use Rattle.machine.specs.declared.State.{State}
 use Rattle.machine.proofs.Tests.{clash}
 use Rattle.machine.proofs.Cells.{SoundRun, Memory}
-use Rattle.machine.proofs.Rests.{braking-along, nothing-suspended, time-suspended, run-suspended}
+use Rattle.machine.proofs.RemainingCounts.{braking-along, nothing-suspended, time-suspended, run-suspended}
 use Rattle.machine.proofs.Parts.{Parts, BusyIn, runOf, running-busy, phase-busy}
 use Rattle.machine.proofs.Going.{stopped-sound, phase-sound, goes-on, present-run, interrupted-sound}
 
 -- ---- the rest in emergency slowing
 
 -- a run slows with what it had
-run-emergency : (m : Motion) (p : Profile) (r : Remaining) → choose (isIndexed m) (isSteps r) (isNothing r) ≡ true → emergencyRest m p r ≡ true
-unfolding isIndexed choose emergencyRest
+run-emergency : (m : Motion) (p : Profile) (r : Remaining) → choose (isIndexed m) (isSteps r) (isNothing r) ≡ true → emergencyRemaining m p r ≡ true
+unfolding isIndexed choose emergencyRemaining
 run-emergency NoRun p r t = t
 run-emergency IndexedRun p r t = t
 run-emergency FreeRun p r t = t
@@ -35,16 +35,16 @@ run-emergency SearchRun p r t = t
 run-emergency DelayedStopRun p r t = either-true-left _ _ t
 
 braking-emergency :
-    (m : Motion) (p : Profile) (r : Remaining) → brakingPhase m ≡ true → isStepsAlong (p .backward) r ≡ true → emergencyRest m p r ≡ true
-unfolding brakingPhase emergencyRest
+    (m : Motion) (p : Profile) (r : Remaining) → brakingPhase m ≡ true → isStepsAlong (p .backward) r ≡ true → emergencyRemaining m p r ≡ true
+unfolding brakingPhase emergencyRemaining
 braking-emergency NoRun p r b t = clash b
 braking-emergency IndexedRun p r b t = clash b
 braking-emergency FreeRun p r b t = clash b
 braking-emergency SearchRun p r b t = clash b
 braking-emergency DelayedStopRun p r b t = either-true-right _ _ t
 
-slowing-emergency : (m : Motion) (p : Profile) (r : Remaining) → slowingPhase m p ≡ true → isNothing r ≡ true → emergencyRest m p r ≡ true
-unfolding slowingPhase emergencyRest
+slowing-emergency : (m : Motion) (p : Profile) (r : Remaining) → slowingPhase m p ≡ true → isNothing r ≡ true → emergencyRemaining m p r ≡ true
+unfolding slowingPhase emergencyRemaining
 slowing-emergency NoRun p r b t = clash b
 slowing-emergency IndexedRun p r b t = clash b
 slowing-emergency FreeRun p r b t = t
@@ -66,7 +66,7 @@ module _ {cells : List Cell} (m : Memory cells) {s : State} (g : Parts cells s) 
   stop-of :
       BusyIn cells s Run → (k : Motion) → runOf cells s .motion ≡ k →
       Parts cells (freeRunStopOf k s (runOf cells s) (present cells s .next))
-  unfolding freeRunStopOf hasPhase slowingPhase hasRamp brakingPhase busyRest isNothing markSound
+  unfolding freeRunStopOf hasPhase slowingPhase hasRamp brakingPhase busyRemaining isNothing atSpeedSound
   stop-of b NoRun e = g
   stop-of b IndexedRun e = g
   stop-of b FreeRun e =
@@ -76,8 +76,8 @@ module _ {cells : List Cell} (m : Memory cells) {s : State} (g : Parts cells s) 
         cell = b .cell;
         loops = b .loops;
         phase = ap (λ (k : Motion). slowingPhase k (runOf cells s)) e ∙ ap not t;
-        rest = refl;
-        mark = refl;
+        remaining = refl;
+        speed = refl;
       }) refl)
   stop-of b SearchRun e = g
   stop-of b DelayedStopRun e =
@@ -87,15 +87,15 @@ module _ {cells : List Cell} (m : Memory cells) {s : State} (g : Parts cells s) 
         cell = b .cell;
         loops = b .loops;
         phase = ap brakingPhase e;
-        rest = braking-along _ (present-run m s b) (ap brakingPhase e);
-        mark = t;
+        remaining = braking-along _ (present-run m s b) (ap brakingPhase e);
+        speed = t;
       }) refl)
       (λ t. g)
 
   stop-in :
       (p : Phase) → (isWaiting p ≡ false → BusyIn cells s p) →
       Parts cells (freeRunStopIn p s (runOf cells s) (present cells s .next))
-  unfolding freeRunStopIn isWaiting
+  unfolding freeRunStopIn
   stop-in Waiting b = g
   stop-in Delay b = g
   stop-in Run b = stop-of (b refl) _ refl
@@ -111,21 +111,21 @@ module _ {cells : List Cell} (m : Memory cells) {s : State} (g : Parts cells s) 
   -- ---- PX
 
   px-run : BusyIn cells s Run → (px : Bool) (k : Motion) → runOf cells s .motion ≡ k → Parts cells (pxInRun k px s)
-  unfolding pxInRun hasPhase slowingPhase busyRest isNothing markSound
+  unfolding pxInRun hasPhase slowingPhase busyRemaining isNothing atSpeedSound
   px-run b px NoRun e = g
   px-run b px IndexedRun e = g
   px-run b px FreeRun e = g
   px-run b px SearchRun e =
       choose-by (Parts cells) px
       (λ t. phase-sound g
-      (record { cell = b .cell; loops = b .loops; phase = ap (λ (k : Motion). slowingPhase k (runOf cells s)) e; rest = refl; mark = refl }) refl)
+      (record { cell = b .cell; loops = b .loops; phase = ap (λ (k : Motion). slowingPhase k (runOf cells s)) e; remaining = refl; speed = refl }) refl)
       (λ t. g)
   px-run b px DelayedStopRun e = g
 
   px-in :
       (px : Bool) (p : Phase) → (isWaiting p ≡ false → BusyIn cells s p) →
       Parts cells (pxSeenIn p px s (runOf cells s) (present cells s .next))
-  unfolding pxSeenIn isWaiting
+  unfolding pxSeenIn
   px-in px Waiting b = g
   px-in px Delay b = g
   px-in px Run b = px-run (b refl) px _ refl
@@ -143,23 +143,23 @@ module _ {cells : List Cell} (m : Memory cells) {s : State} (g : Parts cells s) 
   -- slowing with all that the run has
   slowed-sound :
       {p : Phase} → BusyIn cells s p → hasRamp (runOf cells s) ≡ true →
-      emergencyRest (runOf cells s .motion) (runOf cells s) (s .running .remaining) ≡ true →
+      emergencyRemaining (runOf cells s .motion) (runOf cells s) (s .running .remaining) ≡ true →
       Parts cells (emergencySlowed s)
-  unfolding hasPhase busyRest markSound
-  slowed-sound b h r = phase-sound g (record { cell = b .cell; loops = b .loops; phase = h; rest = r; mark = refl }) refl
+  unfolding hasPhase busyRemaining atSpeedSound
+  slowed-sound b h r = phase-sound g (record { cell = b .cell; loops = b .loops; phase = h; remaining = r; speed = refl }) refl
 
   emergency-in : (p : Phase) → BusyIn cells s p → Parts cells (emergencyIn p s (present cells s))
-  unfolding emergencyIn hasPhase busyRest hasRamp
+  unfolding emergencyIn hasPhase busyRemaining hasRamp
   emergency-in Waiting b =
-      choose-by (Parts cells) _ (λ t. stopped-sound g) (λ t. interrupted-sound g (b .cell) (b .loops) (nothing-suspended _ _ (b .rest)))
-  emergency-in Delay b = interrupted-sound g (b .cell) (b .loops) (time-suspended _ _ (b .rest) (b .phase))
+      choose-by (Parts cells) _ (λ t. stopped-sound g) (λ t. interrupted-sound g (b .cell) (b .loops) (nothing-suspended _ _ (b .remaining)))
+  emergency-in Delay b = interrupted-sound g (b .cell) (b .loops) (time-suspended _ _ (b .remaining) (b .phase))
   emergency-in Run b =
-      choose-by (Parts cells) _ (λ t. interrupted-sound g (b .cell) (b .loops) (run-suspended _ _ (b .rest)))
-      (λ t. slowed-sound b (ap not t) (run-emergency _ _ _ (b .rest)))
-  emergency-in Braking b = slowed-sound b (present-run m s b .ramped (either-true-left _ _ (b .phase))) (braking-emergency _ _ _ (b .phase) (b .rest))
-  emergency-in Slowing b = slowed-sound b (slowing-ramp _ (present-run m s b) _ refl (b .phase)) (slowing-emergency _ _ _ (b .phase) (b .rest))
+      choose-by (Parts cells) _ (λ t. interrupted-sound g (b .cell) (b .loops) (run-suspended _ _ (b .remaining)))
+      (λ t. slowed-sound b (ap not t) (run-emergency _ _ _ (b .remaining)))
+  emergency-in Braking b = slowed-sound b (present-run m s b .ramped (either-true-left _ _ (b .phase))) (braking-emergency _ _ _ (b .phase) (b .remaining))
+  emergency-in Slowing b = slowed-sound b (slowing-ramp _ (present-run m s b) _ refl (b .phase)) (slowing-emergency _ _ _ (b .phase) (b .remaining))
   emergency-in EmergencySlowing b = g
-  emergency-in BackOff b = interrupted-sound g (b .cell) (b .loops) (nothing-suspended _ _ (b .rest))
+  emergency-in BackOff b = interrupted-sound g (b .cell) (b .loops) (nothing-suspended _ _ (b .remaining))
 
   -- 01: "a busy program ends"
   pub emergency-sound : Parts cells (emergencyStop cells s)

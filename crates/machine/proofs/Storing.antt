@@ -16,7 +16,7 @@ use Rattle.instruction.specs.Codes.{codeOf}
 use Rattle.instruction.specs.Soundness.{cellSound}
 use Rattle.instruction.specs.declared.Cell.{Cell}
 use Rattle.machine.specs.Record.{cellAt, storedAt, nullCell, nothingSuspended, idle}
-use Rattle.machine.specs.Soundness.{isCell, isNothing, suspendedRest, suspendedSound, runningSound}
+use Rattle.machine.specs.Soundness.{isCell, isNothing, suspendedRemaining, suspendedSound, runningSound}
 use Rattle.machine.specs.Acting.{sameContent, keepsSuspended, storedState, named, actedAt, cellsAfter, namedCell, machineAfter}
 use Rattle.machine.specs.declared.Remaining.{Remaining}
 use Rattle.machine.specs.declared.State.{State}
@@ -24,25 +24,15 @@ use Rattle.machine.specs.declared.Machine.{Machine}
 use Rattle.machine.specs.declared.commands.Command.the-variants.{Store}
 use Rattle.machine.proofs.Tests.{by-test, either-second, second, every-set}
 use Rattle.machine.proofs.Cells.{cell-from, cell-to, Memory}
-use Rattle.machine.proofs.Rests.{suspended-same}
-use Rattle.machine.proofs.Parts.{Parts, idle-resting, Whole}
+use Rattle.machine.proofs.RemainingCounts.{suspended-same}
+use Rattle.machine.proofs.Parts.{Parts, parts-of, idle-resting, Whole}
 use Rattle.machine.proofs.Going.{emptied-sound}
 
 -- a state that suits one memory suits another, if its record and its running do
 moved-parts :
     {cells : List Cell} {s : State} (other : List Cell) → Parts cells s → suspendedSound other (s .suspended) ≡ true →
     runningSound other (s .running) ≡ true → Parts other s
-moved-parts other g u r =
-    record {
-      presets = g .presets;
-      position = g .position;
-      inputs = g .inputs;
-      outputs = g .outputs;
-      cam = g .cam;
-      fault = g .fault;
-      suspended = u;
-      running = r;
-    }
+moved-parts other g u r = parts-of (g .presets) (g .position) (g .inputs) (g .outputs) (g .cam) (g .fault) u r
 
 module _ {cells : List Cell} (m : Memory cells) (a : CellAddress) (c : Cell) (h : isCell a ≡ true) where
   pub stored-memory : cellSound c ≡ true → Memory (storedAt cells a c)
@@ -65,18 +55,18 @@ module _ {cells : List Cell} (m : Memory cells) (a : CellAddress) (c : Cell) (h 
       getD-set-other cells (a .0 - 100) (b .0 - 100) c nullCell (λ e. n (omega (arith, cell-from a h, cell-from b k)))
 
   -- 01: "WN of equal content leaves it"
-  stored-rest :
+  stored-remaining :
       (b : CellAddress) (r : Remaining) → isCell b ≡ true →
       either (not (eqb (a .0) (b .0))) (sameContent (cellAt cells a) c) ≡ true →
-      suspendedRest r (cellAt cells b .instruction) ≡ true → suspendedRest r (cellAt (storedAt cells a c) b .instruction) ≡ true
+      suspendedRemaining r (cellAt cells b .instruction) ≡ true → suspendedRemaining r (cellAt (storedAt cells a c) b .instruction) ≡ true
   unfolding sameContent
-  stored-rest b r k t u =
+  stored-remaining b r k t u =
       by-test (eqb (a .0) (b .0))
       (λ e. let q = eqb-true (a .0) (b .0) e in
       let same = eqb-true _ _ (both-left _ _ (either-second _ _ t (ap not e))) in
-      ap (λ (x : Cell). suspendedRest r (x .instruction)) (stored-here b q)
+      ap (λ (x : Cell). suspendedRemaining r (x .instruction)) (stored-here b q)
       ∙ sym (suspended-same _ _ r (ap (λ (x : Cell). codeOf (x .instruction)) (at-same q) ∙ same)) ∙ u)
-      (λ e. ap (λ (x : Cell). suspendedRest r (x .instruction)) (stored-other b k (eqb-false (a .0) (b .0) e)) ∙ u)
+      (λ e. ap (λ (x : Cell). suspendedRemaining r (x .instruction)) (stored-other b k (eqb-false (a .0) (b .0) e)) ∙ u)
     where
       at-same : a .0 ≡ b .0 → cellAt cells b ≡ cellAt cells a
       at-same q = unfold cellAt in ap (λ (n : ℕ). getD cells (n - 100) nullCell) (sym q)
@@ -110,4 +100,4 @@ stored-sound m w a c h t i =
         choose-false _ _ _ z
         ∙ both-true (both-left _ _ u)
         (both-true (second _ _ _ u)
-        (stored-rest (w .memory) a c h _ (m .state .suspended .remaining) (both-left _ _ u) k (both-right _ _ (both-right _ _ u)))))
+        (stored-remaining (w .memory) a c h _ (m .state .suspended .remaining) (both-left _ _ u) k (both-right _ _ (both-right _ _ u)))))

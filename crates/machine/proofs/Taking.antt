@@ -29,7 +29,7 @@ use Rattle.instruction.specs.declared.Instruction.the-variants.{Null, IndexedRa
 use Rattle.instruction.specs.declared.run.Motion.{Motion}
 use Rattle.instruction.specs.declared.run.Motion.the-variants.{NoRun, IndexedRun, FreeRun, SearchRun, DelayedStopRun}
 use Rattle.machine.specs.Record.{origin, withLoopCount, withOutput}
-use Rattle.machine.specs.Soundness.{isCell, positionSound, loopCountSound, isNothing, isSteps, isIndexed, isDelay, runPhase, backPhase, hasPhase, busyRest, markSound}
+use Rattle.machine.specs.Soundness.{isCell, positionSound, loopCountSound, isNothing, isSteps, isIndexed, isDelay, runPhase, backPhase, hasPhase, busyRemaining, atSpeedSound}
 use Rattle.machine.specs.Starting.{advanced, entered}
 use Rattle.machine.specs.Milliseconds.{present}
 use Rattle.machine.specs.Taking.{takeClosingLoop, takeConditionalJump, takeTimeDelay, beginIndexed, shiftFor, takeIndexed, takeFree, takeSearch, takeMotion, takeRun, take}
@@ -39,7 +39,7 @@ use Rattle.machine.specs.declared.Phase.{Phase}
 use Rattle.machine.specs.declared.Phase.the-variants.{Run}
 use Rattle.machine.specs.declared.State.{State}
 use Rattle.machine.proofs.Cells.{cell-next, next-sound, SoundRun, run-sound, cam-cell, loop-cell, closing-cell, jump-cell, delay-cell, Memory, cell-sound}
-use Rattle.machine.proofs.Rests.{within-steps, time-sound}
+use Rattle.machine.proofs.RemainingCounts.{within-steps, time-sound}
 use Rattle.machine.proofs.Parts.{Parts, position-sound, outputs-sound, cam-sound}
 use Rattle.machine.proofs.Going.{stopped-sound, counted-sound, advanced-sound, phase-sound, failed-sound}
 
@@ -52,9 +52,9 @@ shift-within n x p true h t = within-not-beyond _ x t
 shift-within n x p false h t = within-scaled n x h
 
 -- a run of any kind but an indexed one begins with no rest
-run-rest : (i : Instruction) (m : Motion) → profileOf i .motion ≡ m → isIndexed m ≡ false → busyRest Run (profileOf i) Nothing ≡ true
-unfolding busyRest isNothing
-run-rest i m e t = choose-false _ _ _ (ap isIndexed e ∙ t)
+run-remaining : (i : Instruction) (m : Motion) → profileOf i .motion ≡ m → isIndexed m ≡ false → busyRemaining Run (profileOf i) Nothing ≡ true
+unfolding busyRemaining isNothing
+run-remaining i m e t = choose-false _ _ _ (ap isIndexed e ∙ t)
 
 -- an output set: the outputs keep their number
 pub output-sound : {cells : List Cell} {s : State} → Parts cells s → (k : ℕ) (v : Bool) → Parts cells (withOutput s k v)
@@ -65,20 +65,20 @@ module _ {cells : List Cell} {s : State} (g : Parts cells s)
     (c : isCell (s .running .cell) ≡ true) (l : loopCountSound (s .running .loops) ≡ true) where
   pub entered-sound :
       {p : Phase} {r : Remaining} (i : Instruction) → present cells s .instruction ≡ i → hasPhase p i ≡ true →
-      busyRest p (profileOf i) r ≡ true → markSound p (profileOf i) false ≡ true → Parts cells (entered s p r)
-  entered-sound i e h r k = phase-sound g (record { cell = c; loops = l; phase = h; rest = r; mark = k }) e
+      busyRemaining p (profileOf i) r ≡ true → atSpeedSound p (profileOf i) false ≡ true → Parts cells (entered s p r)
+  entered-sound i e h r k = phase-sound g (record { cell = c; loops = l; phase = h; remaining = r; speed = k }) e
 
   -- a run with its mark clear
   pub run-begun :
       {r : Remaining} (i : Instruction) → present cells s .instruction ≡ i → runPhase (profileOf i .motion) ≡ true →
-      busyRest Run (profileOf i) r ≡ true → Parts cells (entered s Run r)
-  unfolding hasPhase markSound
+      busyRemaining Run (profileOf i) r ≡ true → Parts cells (entered s Run r)
+  unfolding hasPhase atSpeedSound
   run-begun i e h r = entered-sound i e h r (either-true-right _ _ refl)
 
   indexed-begun :
       (i : Instruction) (next : CellAddress) (z : ℤ) → present cells s .instruction ≡ i → profileOf i .motion ≡ IndexedRun →
       valid Next (next .0) ≡ true → Within z → Parts cells (beginIndexed s z next)
-  unfolding beginIndexed busyRest isSteps runPhase isIndexed
+  unfolding beginIndexed busyRemaining isSteps runPhase isIndexed
   indexed-begun i next z e m v w =
       choose-by (Parts cells) (isZeroOf _) (λ t. advanced-sound g next l v)
       (λ t. run-begun i e (ap runPhase m) (choose-true _ _ _ (ap isIndexed m) ∙ within-steps _ w t))
@@ -86,18 +86,18 @@ module _ {cells : List Cell} {s : State} (g : Parts cells s)
   taken-motion :
       (i : Instruction) (next : CellAddress) → present cells s .instruction ≡ i → valid Next (next .0) ≡ true → SoundRun (profileOf i) →
       (m : Motion) → profileOf i .motion ≡ m → Parts cells (takeMotion m s (profileOf i) next)
-  unfolding takeMotion takeIndexed shiftFor takeFree takeSearch hasPhase runPhase backPhase busyRest isNothing isIndexed markSound
+  unfolding takeMotion takeIndexed shiftFor takeFree takeSearch hasPhase runPhase backPhase busyRemaining isNothing isIndexed atSpeedSound
   taken-motion i next e v d NoRun m = advanced-sound g next l v
   taken-motion i next e v d IndexedRun m =
       choose-by (Parts cells) _ (λ t. failed-sound g c 50 refl refl refl)
       (λ t. indexed-begun i next _ e m v (shift-within _ _ _ (s .presets .absolute) (d .small) t))
   taken-motion i next e v d FreeRun m =
-      choose-by (Parts cells) _ (λ t. advanced-sound g next l v) (λ t. run-begun i e (ap runPhase m) (run-rest i FreeRun m refl))
+      choose-by (Parts cells) _ (λ t. advanced-sound g next l v) (λ t. run-begun i e (ap runPhase m) (run-remaining i FreeRun m refl))
   taken-motion i next e v d SearchRun m =
       choose-by (Parts cells) _ (λ t. entered-sound i e (ap backPhase m) refl refl)
-      (λ t. run-begun i e (ap runPhase m) (run-rest i SearchRun m refl))
+      (λ t. run-begun i e (ap runPhase m) (run-remaining i SearchRun m refl))
   taken-motion i next e v d DelayedStopRun m =
-      choose-by (Parts cells) _ (λ t. advanced-sound g next l v) (λ t. run-begun i e (ap runPhase m) (run-rest i DelayedStopRun m refl))
+      choose-by (Parts cells) _ (λ t. advanced-sound g next l v) (λ t. run-begun i e (ap runPhase m) (run-remaining i DelayedStopRun m refl))
 
   -- 01: "Runs: x4 with RS not D2, D3, B2, B3 is error 51"
   taken-run :
@@ -128,7 +128,7 @@ module _ {cells : List Cell} {s : State} (g : Parts cells s)
   taken-delay :
       (n : Milliseconds) (next : CellAddress) → present cells s .instruction ≡ TimeDelay n → n .0 ≤ delayLimit →
       valid Next (next .0) ≡ true → Parts cells (takeTimeDelay s n next)
-  unfolding takeTimeDelay hasPhase isDelay codeOf busyRest markSound
+  unfolding takeTimeDelay hasPhase isDelay codeOf busyRemaining atSpeedSound
   taken-delay n next e h v =
       choose-by (Parts cells) _ (λ t. advanced-sound g next l v)
       (λ t. entered-sound (TimeDelay n) e refl (time-sound (n .0) (omega (arith, eqb-false)) (omega arith)) refl)

@@ -1,17 +1,18 @@
 -- The worked cases hold, by computation: a fact for each table, short enough for the prover to name a case that fails.
 -- Assumes nothing.
-use mathlib.Core.Path.{_≡_, refl}
+use mathlib.Core.Path.{_≡_, refl, _∙_}
 use mathlib.Core.List.{[]}
 use Rattle.machine.specs.Cases.{send, replies}
-use Rattle.machine.specs.Worked.{linesText, orderText, endText, endingText, comes, unmet}
+use Rattle.machine.specs.Worked.{signalsText, orderText, endText, endingText, comes, unmet}
 use Rattle.machine.specs.WorkedCases.{WorkedCases, ofStrings, ofStarts, ofCodes, ofCounts, ofRuns, ofStops, ofRecords}
 use Rattle.machine.specs.WorkedCases.{ofRecoveries, ofResumptions, ofOrders, ofRefusals, ofCommands, ofModes}
 use Rattle.machine.specs.WorkedCases.{ofInstructions, ofSearches, ofCams, ofPrograms, ofLoops}
 use Rattle.machine.proofs.Computing.{computing}
+use Rattle.machine.proofs.Delays.{beforeLast, leap, leapt, quickly, waitText, comesQuickly, unmetQuickly, unmet-quickly}
 
 -- what the cases unfold
 working : Unit {0}
-unfolding computing send replies linesText orderText endText endingText comes unmet
+unfolding computing send replies signalsText orderText endText endingText comes unmet
 working = tt
 
 strings-hold : unmet ofStrings ≡ []
@@ -82,9 +83,13 @@ programs-hold : unmet ofPrograms ≡ []
 unfolding working ofPrograms
 programs-hold = refl
 
+-- over ten seconds, most of them delays
+loops-quickly : unmetQuickly ofLoops ≡ []
+unfolding working beforeLast leap leapt quickly waitText comesQuickly unmetQuickly ofLoops
+loops-quickly = refl
+
 loops-hold : unmet ofLoops ≡ []
-unfolding working ofLoops
-loops-hold = refl
+loops-hold = unmet-quickly ofLoops ∙ loops-quickly
 
 pub worked-hold : WorkedCases
 worked-hold =

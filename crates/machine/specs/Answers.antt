@@ -13,6 +13,7 @@ use Rattle.fields.specs.Rows.{printFields}
 use Rattle.fields.specs.declared.kinds.Kind.{Kind}
 use Rattle.fields.specs.declared.kinds.Kind.the-variants.{Fixed, Count, Signed, Name}
 use Rattle.fields.specs.declared.names.Names.the-variants.{Outputs, Inputs, Presets}
+use Rattle.units.specs.Limits.{loopLimit}
 use Rattle.units.specs.Bits.{bitsOf}
 use Rattle.units.specs.declared.CellAddress.{CellAddress}
 use Rattle.format.specs.Formats.{cell, bit}
@@ -34,7 +35,7 @@ use Rattle.machine.specs.declared.commands.Command.{Command}
 use Rattle.machine.specs.declared.commands.Command.the-variants.{Store, SetPreset, Start, EmergencyStop, FreeRunStop, SetPosition, SetOutput, SetCam, AskPosition, AskPreset, AskInput, AskOutput, AskCell, AskCam, AskFault, AskSuspended, Wrong}
 
 -- the place of a value of RS in its list
-unfoldable pub resolutionPlace : Resolution → ℕ
+abbrev pub resolutionPlace : Resolution → ℕ
 resolutionPlace D0 = 0
 resolutionPlace D1 = 1
 resolutionPlace D2 = 2
@@ -94,7 +95,7 @@ remainingBits (Timed n) = n .0
 unfoldable pub suspendedText : Suspended → List ℕ
 suspendedText r =
     choose (eqb (r .cell .0) 0) (printFields (Fixed 3 0 999 ∷ []) (0 ∷ []))
-    (printFields (cell ∷ anySigned ∷ Count 0 65535 ∷ []) (r .cell .0 ∷ remainingBits (r .remaining) ∷ r .loops ∷ []))
+    (printFields (cell ∷ anySigned ∷ Count 0 loopLimit ∷ []) (r .cell .0 ∷ remainingBits (r .remaining) ∷ r .loops ∷ []))
 
 -- an answer: the address in the string, the code, the fields, and byte 13
 unfoldable pub answerOf : StringAddress → String → List ℕ → List ℕ

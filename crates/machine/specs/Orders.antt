@@ -17,13 +17,13 @@ use Rattle.machine.specs.declared.Remaining.the-variants.{Nothing, Count
 use Rattle.machine.specs.declared.Phase.{Phase}
 use Rattle.machine.specs.declared.Phase.the-variants.{Waiting, Delay, Run, Braking, Slowing, EmergencySlowing, BackOff}
 use Rattle.machine.specs.declared.State.{State}
-use Rattle.machine.specs.declared.answers.Lines.{Lines}
+use Rattle.machine.specs.declared.answers.BoardSignals.{BoardSignals}
 use Rattle.machine.specs.declared.answers.BoardOrder.{BoardOrder}
 use Rattle.machine.specs.declared.answers.BoardOrder.the-variants as order
 
 -- 01: "always with IN, CU and FC"
-abbrev pub linesOf : State → Lines
-linesOf s = record { current = s .presets .current; powered = outputAt s outCU; fc = outputAt s outFC }
+abbrev pub signalsOf : State → BoardSignals
+signalsOf s = record { current = s .presets .current; powered = outputAt s outCU; fc = outputAt s outFC }
 
 -- 01: "signed rest (0 where none is counted)"
 unfoldable pub remainingSteps : Remaining → Steps
@@ -38,18 +38,18 @@ multiplied hertz x4 = choose x4 (hertz * 4) hertz
 -- 01: "direction, Hz × m, ramp code (0 without and in back) and signed rest"
 unfoldable pub runOrder : Phase → State → Profile → BoardOrder
 runOrder phase s p =
-    order.Run (linesOf s) (backwardIn phase p (s .running .remaining)) (multiplied (p .hertz) (p .x4)) (p .ramp)
+    order.Run (signalsOf s) (backwardIn phase p (s .running .remaining)) (multiplied (p .hertz) (p .x4)) (p .ramp)
     (remainingSteps (s .running .remaining))
 
 -- 01: "stand outside a run; slow in both slowings"; a 03 in back goes "at LL against s"
 unfoldable pub orderIn : Phase → State → Profile → BoardOrder
-orderIn Waiting s p = order.Stand (linesOf s)
-orderIn Delay s p = order.Stand (linesOf s)
+orderIn Waiting s p = order.Stand (signalsOf s)
+orderIn Delay s p = order.Stand (signalsOf s)
 orderIn Run s p = runOrder Run s p
 orderIn Braking s p = runOrder Braking s p
-orderIn Slowing s p = order.Slow (linesOf s)
-orderIn EmergencySlowing s p = order.Slow (linesOf s)
-orderIn BackOff s p = order.Run (linesOf s) (not (p .backward)) (p .slow) 0 still
+orderIn Slowing s p = order.Slow (signalsOf s)
+orderIn EmergencySlowing s p = order.Slow (signalsOf s)
+orderIn BackOff s p = order.Run (signalsOf s) (not (p .backward)) (p .slow) 0 still
 
 -- the order, given the present cell
 unfoldable pub orderAt : State → Cell → BoardOrder

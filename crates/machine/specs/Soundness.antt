@@ -7,7 +7,7 @@ use lib.Dec.{eqb, leb, ltb}
 use lib.IntN.{natAbs}
 use Rattle.laws.specs.Tests.{choose, both, either, same}
 use Rattle.laws.specs.Tables.{every}
-use Rattle.units.specs.Limits.{loopLimit, restLimit}
+use Rattle.units.specs.Limits.{loopLimit, remainingLimit}
 use Rattle.units.specs.Remaining.{isZeroOf, isNegativeOf}
 use Rattle.units.specs.declared.CellAddress.{CellAddress}
 use Rattle.units.specs.declared.Steps.{Steps}
@@ -60,11 +60,11 @@ unfoldable pub loopCountSound : ℕ → Bool
 loopCountSound n = leb n loopLimit
 
 -- 01: "a rest is within 33,554,428 either way"; a rest of steps or milliseconds is never 0
-unfoldable pub stepsRest : Steps → Bool
-stepsRest n = both (leb (natAbs (n .0)) restLimit) (not (isZeroOf n))
+unfoldable pub stepsRemaining : Steps → Bool
+stepsRemaining n = both (leb (natAbs (n .0)) remainingLimit) (not (isZeroOf n))
 
-unfoldable pub timeRest : Milliseconds → Bool
-timeRest n = both (leb 1 (n .0)) (leb (n .0) restLimit)
+unfoldable pub timeRemaining : Milliseconds → Bool
+timeRemaining n = both (leb 1 (n .0)) (leb (n .0) remainingLimit)
 
 unfoldable pub isNothing : Remaining → Bool
 isNothing Nothing = true
@@ -72,18 +72,18 @@ isNothing (Counted n) = false
 isNothing (Timed n) = false
 
 unfoldable pub isSteps : Remaining → Bool
-isSteps (Counted n) = stepsRest n
+isSteps (Counted n) = stepsRemaining n
 isSteps Nothing = false
 isSteps (Timed n) = false
 
 unfoldable pub isTime : Remaining → Bool
-isTime (Timed n) = timeRest n
+isTime (Timed n) = timeRemaining n
 isTime Nothing = false
 isTime (Counted n) = false
 
 -- steps along s
 unfoldable pub isStepsAlong : Bool → Remaining → Bool
-isStepsAlong s (Counted n) = both (stepsRest n) (same (isNegativeOf n) s)
+isStepsAlong s (Counted n) = both (stepsRemaining n) (same (isNegativeOf n) s)
 isStepsAlong s Nothing = false
 isStepsAlong s (Timed n) = false
 
@@ -98,17 +98,17 @@ unfoldable pub isDelay : Instruction → Bool
 isDelay i = eqb (codeOf i) 65
 
 -- 01: "non-zero in the record only for an indexed run or (positive) a 65"
-unfoldable pub suspendedRest : Remaining → Instruction → Bool
-suspendedRest Nothing i = true
-suspendedRest (Counted n) i = both (isIndexed (profileOf i .motion)) (stepsRest n)
-suspendedRest (Timed n) i = both (isDelay i) (timeRest n)
+unfoldable pub suspendedRemaining : Remaining → Instruction → Bool
+suspendedRemaining Nothing i = true
+suspendedRemaining (Counted n) i = both (isIndexed (profileOf i .motion)) (stepsRemaining n)
+suspendedRemaining (Timed n) i = both (isDelay i) (timeRemaining n)
 
 -- 01: "an empty record is three zeros"
 unfoldable pub suspendedSound : List Cell → Suspended → Bool
 suspendedSound cells r =
     choose (eqb (r .cell .0) 0) (both (isNothing (r .remaining)) (eqb (r .loops) 0))
     (both (isCell (r .cell))
-    (both (loopCountSound (r .loops)) (suspendedRest (r .remaining) (cellAt cells (r .cell) .instruction))))
+    (both (loopCountSound (r .loops)) (suspendedRemaining (r .remaining) (cellAt cells (r .cell) .instruction))))
 
 unfoldable pub hasRamp : Profile → Bool
 hasRamp p = not (eqb (p .ramp) 0)
@@ -154,34 +154,34 @@ hasPhase EmergencySlowing i = hasRamp (profileOf i)
 hasPhase BackOff i = backPhase (profileOf i .motion)
 
 -- 01: "non-zero in an indexed run (slowing or not) .. 0 or along s in a 05's emergency slowing, else 0"
-unfoldable pub emergencyRest : Motion → Profile → Remaining → Bool
-emergencyRest IndexedRun p r = isSteps r
-emergencyRest DelayedStopRun p r = either (isNothing r) (isStepsAlong (p .backward) r)
-emergencyRest NoRun p r = isNothing r
-emergencyRest FreeRun p r = isNothing r
-emergencyRest SearchRun p r = isNothing r
+unfoldable pub emergencyRemaining : Motion → Profile → Remaining → Bool
+emergencyRemaining IndexedRun p r = isSteps r
+emergencyRemaining DelayedStopRun p r = either (isNothing r) (isStepsAlong (p .backward) r)
+emergencyRemaining NoRun p r = isNothing r
+emergencyRemaining FreeRun p r = isNothing r
+emergencyRemaining SearchRun p r = isNothing r
 
 -- 01: "a busy rest is positive in a delay, non-zero in an indexed run (slowing or not), non-zero along s in braking, .. else 0"
-unfoldable pub busyRest : Phase → Profile → Remaining → Bool
-busyRest Waiting p r = isNothing r
-busyRest Delay p r = isTime r
-busyRest Run p r = choose (isIndexed (p .motion)) (isSteps r) (isNothing r)
-busyRest Braking p r = isStepsAlong (p .backward) r
-busyRest Slowing p r = isNothing r
-busyRest EmergencySlowing p r = emergencyRest (p .motion) p r
-busyRest BackOff p r = isNothing r
+unfoldable pub busyRemaining : Phase → Profile → Remaining → Bool
+busyRemaining Waiting p r = isNothing r
+busyRemaining Delay p r = isTime r
+busyRemaining Run p r = choose (isIndexed (p .motion)) (isSteps r) (isNothing r)
+busyRemaining Braking p r = isStepsAlong (p .backward) r
+busyRemaining Slowing p r = isNothing r
+busyRemaining EmergencySlowing p r = emergencyRemaining (p .motion) p r
+busyRemaining BackOff p r = isNothing r
 
 -- 01: "the mark is 1 in braking, 0 in waiting, delay, back and runs without ramp"
-unfoldable pub markSound : Phase → Profile → Bool → Bool
-markSound Waiting p mark = not mark
-markSound Delay p mark = not mark
-markSound Run p mark = either (hasRamp p) (not mark)
-markSound Braking p mark = mark
-markSound Slowing p mark = true
-markSound EmergencySlowing p mark = true
-markSound BackOff p mark = not mark
+unfoldable pub atSpeedSound : Phase → Profile → Bool → Bool
+atSpeedSound Waiting p atSpeed = not atSpeed
+atSpeedSound Delay p atSpeed = not atSpeed
+atSpeedSound Run p atSpeed = either (hasRamp p) (not atSpeed)
+atSpeedSound Braking p atSpeed = atSpeed
+atSpeedSound Slowing p atSpeed = true
+atSpeedSound EmergencySlowing p atSpeed = true
+atSpeedSound BackOff p atSpeed = not atSpeed
 
-unfoldable pub isWaiting : Phase → Bool
+abbrev pub isWaiting : Phase → Bool
 isWaiting Waiting = true
 isWaiting Delay = false
 isWaiting Run = false
@@ -200,7 +200,7 @@ busySound r i =
     both (isCell (r .cell))
     (both (loopCountSound (r .loops))
     (both (hasPhase (r .phase) i)
-    (both (busyRest (r .phase) (profileOf i) (r .remaining)) (markSound (r .phase) (profileOf i) (r .«at_speed»)))))
+    (both (busyRemaining (r .phase) (profileOf i) (r .remaining)) (atSpeedSound (r .phase) (profileOf i) (r .«at_speed»)))))
 
 unfoldable pub runningSound : List Cell → Running → Bool
 runningSound cells r = choose (eqb (r .cell .0) 0) (restingSound r) (busySound r (cellAt cells (r .cell) .instruction))

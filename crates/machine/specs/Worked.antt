@@ -21,7 +21,7 @@ use Rattle.machine.specs.Calls.Call.{Wait}
 use Rattle.machine.specs.Calls.Ending.{NoWait, Ended}
 use Rattle.machine.specs.Cases.{send, replies, bench}
 use Rattle.machine.specs.declared.Machine.{Machine}
-use Rattle.machine.specs.declared.answers.Lines.{Lines}
+use Rattle.machine.specs.declared.answers.BoardSignals.{BoardSignals}
 use Rattle.machine.specs.declared.answers.BoardOrder.{BoardOrder}
 use Rattle.machine.specs.declared.answers.BoardOrder.the-variants as order
 use Rattle.machine.specs.declared.answers.End.{End}
@@ -47,16 +47,16 @@ pub data Worked : Type 0 where
 -- ---- orders and ends as text, with fields like those of an answer
 
 -- IN, CU and FC
-unfoldable pub linesText : Lines → List ℕ
-linesText l = printFields (Count 0 3 ∷ bit ∷ bit ∷ []) (l .current ∷ bitOf (l .powered) ∷ bitOf (l .fc) ∷ [])
+unfoldable pub signalsText : BoardSignals → List ℕ
+signalsText l = printFields (Count 0 3 ∷ bit ∷ bit ∷ []) (l .current ∷ bitOf (l .powered) ∷ bitOf (l .fc) ∷ [])
 
--- of a run: direction, Hz × m, ramp code and rest, then the lines
+-- of a run: direction, Hz × m, ramp code and rest, then the signals
 unfoldable pub orderText : BoardOrder → List ℕ
-orderText (order.Stand l) = bytes "stand" ++ linesText l
-orderText (order.Slow l) = bytes "slow" ++ linesText l
+orderText (order.Stand l) = bytes "stand" ++ signalsText l
+orderText (order.Slow l) = bytes "slow" ++ signalsText l
 orderText (order.Run l b h r n) =
     bytes "run"
-    ++ (printFields (Sign ∷ Count 0 96000 ∷ Count 0 42 ∷ anySigned ∷ []) (bitOf b ∷ h ∷ r ∷ bitsOf n ∷ []) ++ linesText l)
+    ++ (printFields (Sign ∷ Count 0 96000 ∷ Count 0 42 ∷ anySigned ∷ []) (bitOf b ∷ h ∷ r ∷ bitsOf n ∷ []) ++ signalsText l)
 
 unfoldable pub endText : End → List ℕ
 endText end.Idle = bytes "idle "

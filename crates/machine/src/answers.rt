@@ -3,7 +3,7 @@ use units::Milliseconds;
 use units::Steps;
 
 // 01: "always with IN, CU and FC".
-pub struct Lines {
+pub struct BoardSignals {
     pub current: u8,
     pub powered: bool,
     pub fc: bool,
@@ -11,10 +11,10 @@ pub struct Lines {
 
 // 01: "the order to the board".
 pub enum BoardOrder {
-    Stand(Lines),
-    Slow(Lines),
+    Stand(BoardSignals),
+    Slow(BoardSignals),
     Run {
-        lines: Lines,
+        signals: BoardSignals,
         backward: bool,
         hertz: u32,
         ramp: u8,

@@ -1,7 +1,7 @@
 // The order to the board.
 ghost use mathlib.Core.Path.{_≡_};
 ghost use mathlib.Core.Bool.{true};
-ghost use Rattle.machine.specs.Orders.{linesOf, remainingSteps, multiplied as multipliedOf};
+ghost use Rattle.machine.specs.Orders.{signalsOf, remainingSteps, multiplied as multipliedOf};
 ghost use Rattle.machine.specs.Orders.{runOrder, orderIn, orderAt};
 ghost use Rattle.instruction.specs.Soundness.{cellSound};
 ghost use Rattle.machine.specs.declared.Phase.the-variants.{BackOff};
@@ -13,14 +13,14 @@ use machine::Phase;
 use machine::Remaining;
 use machine::State;
 use machine::answers::BoardOrder;
-use machine::answers::Lines;
+use machine::answers::BoardSignals;
 use units::Steps;
 
 // IN, CU and FC, which every order has.
-pub fn lines(state: State) -> Lines
-    ensures { λ r. ⌜ r ≡ linesOf state ⌝ }
+pub fn signals(state: State) -> BoardSignals
+    ensures { λ r. ⌜ r ≡ signalsOf state ⌝ }
 {
-    Lines {
+    BoardSignals {
         current: state.presets.current,
         powered: state.outputs[State::CU],
         fc: state.outputs[State::FC],
@@ -53,14 +53,14 @@ fn run_order(phase: Phase, state: State, profile: Profile) -> BoardOrder
     requires { ⌜ WithinHertz (profile .hertz) ⌝ }
     ensures { λ r. ⌜ r ≡ runOrder phase state profile ⌝ }
 {
-    let lines = lines(state);
+    let signals = signals(state);
     let running = state.running;
     let remaining = running.remaining;
     let backward = backward_in(phase, profile, remaining);
     let hertz = multiplied(profile.hertz, profile.x4);
     let steps = remaining_steps(remaining);
     BoardOrder::Run {
-        lines,
+        signals,
         backward,
         hertz,
         ramp: profile.ramp,
@@ -71,9 +71,9 @@ fn run_order(phase: Phase, state: State, profile: Profile) -> BoardOrder
 fn backing_off(state: State, profile: Profile) -> BoardOrder
     ensures { λ r. ⌜ r ≡ orderIn BackOff state profile ⌝ }
 {
-    let lines = lines(state);
+    let signals = signals(state);
     BoardOrder::Run {
-        lines,
+        signals,
         backward: !profile.backward,
         hertz: profile.slow,
         ramp: 0,
@@ -96,16 +96,16 @@ pub fn order(state: State, profile: Profile) -> BoardOrder
     requires { ⌜ WithinHertz (profile .hertz) ⌝ }
     ensures { λ r. ⌜ r ≡ orderIn (state .running .phase) state profile ⌝ }
 {
-    let lines = lines(state);
+    let signals = signals(state);
     let running = state.running;
     let phase = running.phase;
     match phase {
-        Phase::Waiting => BoardOrder::Stand(lines),
-        Phase::Delay => BoardOrder::Stand(lines),
+        Phase::Waiting => BoardOrder::Stand(signals),
+        Phase::Delay => BoardOrder::Stand(signals),
         Phase::Run => run_order(Phase::Run, state, profile),
         Phase::Braking => run_order(Phase::Braking, state, profile),
-        Phase::Slowing => BoardOrder::Slow(lines),
-        Phase::EmergencySlowing => BoardOrder::Slow(lines),
+        Phase::Slowing => BoardOrder::Slow(signals),
+        Phase::EmergencySlowing => BoardOrder::Slow(signals),
         Phase::BackOff => backing_off(state, profile),
     }
 }

@@ -7,7 +7,7 @@ use Rattle.laws.specs.Text.{bytes}
 use Rattle.units.specs.Bits.{bitsOf}
 use Rattle.units.specs.declared.Steps.{Steps}
 use Rattle.decimal.specs.Printing.{decimal, signed}
-use Rattle.machine.specs.declared.answers.Lines.{Lines}
+use Rattle.machine.specs.declared.answers.BoardSignals.{BoardSignals}
 use Rattle.machine.specs.declared.answers.BoardOrder.{BoardOrder}
 use Rattle.machine.specs.declared.answers.BoardOrder.the-variants.{Stand, Slow, Run}
 use Rattle.machine.specs.declared.answers.End.{End}
@@ -18,8 +18,8 @@ flagText true = bytes ",1"
 flagText false = bytes ",0"
 
 -- IN, CU and FC
-unfoldable pub linesText : Lines → List ℕ
-linesText l = decimal (l .current) ++ (flagText (l .powered) ++ flagText (l .fc))
+unfoldable pub signalsText : BoardSignals → List ℕ
+signalsText l = decimal (l .current) ++ (flagText (l .powered) ++ flagText (l .fc))
 
 -- a number and a comma
 unfoldable pub fieldText : ℕ → List ℕ
@@ -35,9 +35,9 @@ runText backward hertz ramp remaining =
     directionText backward ++ (fieldText hertz ++ (fieldText ramp ++ (signed (bitsOf remaining) ++ bytes ",")))
 
 unfoldable pub orderText : BoardOrder → List ℕ
-orderText (Stand lines) = bytes "stand:" ++ linesText lines
-orderText (Slow lines) = bytes "slow:" ++ linesText lines
-orderText (Run lines backward hertz ramp remaining) = runText backward hertz ramp remaining ++ linesText lines
+orderText (Stand signals) = bytes "stand:" ++ signalsText signals
+orderText (Slow signals) = bytes "slow:" ++ signalsText signals
+orderText (Run signals backward hertz ramp remaining) = runText backward hertz ramp remaining ++ signalsText signals
 
 unfoldable pub endText : End → List ℕ
 endText Idle = bytes "idle"

@@ -1,14 +1,14 @@
 // The order to the board and the end of a wait, as text.
 ghost use mathlib.Core.Path.{_≡_};
 ghost use Rattle.lines.specs.Gathering.{Gathered};
-ghost use Rattle.observed.specs.Orders.{flagText, linesText, fieldText, directionText};
+ghost use Rattle.observed.specs.Orders.{flagText, signalsText, fieldText, directionText};
 ghost use Rattle.observed.specs.Orders.{runText, orderText, endText};
 use lines::gathering::gather;
 use lines::gathering::gather_number;
 use lines::gathering::gather_signed;
 use machine::answers::BoardOrder;
+use machine::answers::BoardSignals;
 use machine::answers::End;
-use machine::answers::Lines;
 use units::Steps;
 
 // `,1` or `,0`.
@@ -22,12 +22,12 @@ fn gather_flag(line: &mut [u8], n: usize, on: bool) -> usize
 }
 
 // `1,0,0`: IN, CU and FC, which every order has.
-fn gather_lines(line: &mut [u8], n: usize, lines: Lines) -> usize
-    ensures { λ r. ⌜ Gathered (now (line .entry)) n (linesText lines) (now (line .exit)) r ⌝ }
+fn gather_signals(line: &mut [u8], n: usize, signals: BoardSignals) -> usize
+    ensures { λ r. ⌜ Gathered (now (line .entry)) n (signalsText signals) (now (line .exit)) r ⌝ }
 {
-    let a = gather_number(line, n, lines.current as u32);
-    let b = gather_flag(line, a, lines.powered);
-    gather_flag(line, b, lines.fc)
+    let a = gather_number(line, n, signals.current as u32);
+    let b = gather_flag(line, a, signals.powered);
+    gather_flag(line, b, signals.fc)
 }
 
 // `9000,`.
@@ -72,23 +72,23 @@ pub fn gather_order(line: &mut [u8], n: usize, order: BoardOrder) -> usize
     ensures { λ r. ⌜ Gathered (now (line .entry)) n (orderText order) (now (line .exit)) r ⌝ }
 {
     match order {
-        BoardOrder::Stand(lines) => {
+        BoardOrder::Stand(signals) => {
             let next = gather(line, n, b"stand:");
-            gather_lines(line, next, lines)
+            gather_signals(line, next, signals)
         }
-        BoardOrder::Slow(lines) => {
+        BoardOrder::Slow(signals) => {
             let next = gather(line, n, b"slow:");
-            gather_lines(line, next, lines)
+            gather_signals(line, next, signals)
         }
         BoardOrder::Run {
-            lines,
+            signals,
             backward,
             hertz,
             ramp,
             remaining,
         } => {
             let next = gather_run(line, n, backward, hertz, ramp, remaining);
-            gather_lines(line, next, lines)
+            gather_signals(line, next, signals)
         }
     }
 }

@@ -1,9 +1,9 @@
-// The cells that an operation looks at.
+// The cell that most operations look at.
 ghost use mathlib.Core.Path.{_≡_};
 ghost use mathlib.Core.Bool.{true};
 ghost use Rattle.instruction.specs.Soundness.{cellSound};
 ghost use Rattle.machine.specs.Soundness.{sound as soundOf};
-ghost use Rattle.machine.specs.Milliseconds.{present, held};
+ghost use Rattle.machine.specs.Milliseconds.{present};
 use instruction::Cell;
 use machine::Machine;
 
@@ -14,17 +14,6 @@ pub fn present_cell(machine: Machine) -> Cell
     ensures sound { λ r. ⌜ cellSound r ≡ true ⌝ }
 {
     let at = machine.state.running.cell;
-    let i = at.place();
-    machine.cells[i]
-}
-
-// The interrupted record's cell; where the record is empty, the first cell serves.
-pub fn suspended_cell(machine: Machine) -> Cell
-    requires { ⌜ soundOf machine ≡ true ⌝ }
-    ensures { λ r. ⌜ held (machine .cells) (machine .state) ≡ r ⌝ }
-    ensures sound { λ r. ⌜ cellSound r ≡ true ⌝ }
-{
-    let at = machine.state.suspended.cell;
     let i = at.place();
     machine.cells[i]
 }

@@ -8,8 +8,6 @@ ghost use Rattle.machine.specs.Milliseconds.{millisecond as millisecondOf};
 ghost use Rattle.machine.specs.Calls.{act};
 ghost use Rattle.machine.specs.Calls.Call.{Wait};
 ghost use Rattle.operations.specs.Results.{passedOn};
-use crate::parts::present_cell;
-use crate::parts::suspended_cell;
 use crate::results::Ending;
 use crate::results::Passed;
 use crate::results::Refusal;
@@ -24,13 +22,18 @@ fn within(budget: Milliseconds) -> bool
     (1 <= budget.0) & (budget.0 <= 1_000_000)
 }
 
-// One millisecond.
+// One millisecond, at the present cell and the interrupted record's; an empty record has none, and
+// the first cell serves. Both are read here, since each function that takes a drive copies it.
 pub fn millisecond(machine: Machine) -> State
     requires { ⌜ sound machine ≡ true ⌝ }
     ensures { λ r. ⌜ r ≡ millisecondOf (machine .cells) (machine .state) ⌝ }
 {
-    let cell = present_cell(machine);
-    let held = suspended_cell(machine);
+    let at = machine.state.running.cell;
+    let i = at.place();
+    let cell = machine.cells[i];
+    let held_at = machine.state.suspended.cell;
+    let j = held_at.place();
+    let held = machine.cells[j];
     execution::milliseconds::millisecond(machine.state, cell, held)
 }
 

@@ -1,17 +1,16 @@
 // A cell put together from integers: a code, its parameters in the order of QM, and the next cell.
+ghost use mathlib.Core.Path.{_≡_};
+ghost use Rattle.raw.specs.Cells.{fitsHertz, fitsFixed, fitsCount, fitsKind};
+ghost use Rattle.raw.specs.Cells.{secondOf, numberAs};
+ghost use Rattle.raw.specs.Cells.{cellHolding, fitsRow, numbersIn, madeOf};
 use crate::integers;
 use fields::kinds::Kind;
+use fields::rows::Row;
 use instruction::Cell;
 use instruction::Instruction;
 use instruction::numbers;
 use units::CellAddress;
 use units::Position;
-
-// A parameter as the number that a cell is made of, and whether a cell can hold it.
-pub struct Parameter {
-    pub held: bool,
-    pub number: u32,
-}
 
 // A cell, and whether the record can hold it.
 pub struct Made {
@@ -19,71 +18,126 @@ pub struct Made {
     pub cell: Cell,
 }
 
-fn narrowed(held: bool, v: u64) -> Parameter {
-    Parameter {
-        held,
-        number: integers::low(v),
-    }
-}
-
-// s: 1 or -1, as 0 or 1.
-fn sign(v: u64) -> Parameter {
-    if v == 1 {
-        return narrowed(true, 0);
-    }
-    narrowed(v == 0xffff_ffff_ffff_ffff, 1)
-}
-
-// XX: 1 or 4, as 0 or 1.
-fn multiplier(v: u64) -> Parameter {
-    if v == 1 {
-        return narrowed(true, 0);
-    }
-    narrowed(v == 4, 1)
-}
-
 // A frequency of 21 or 22 is held as its place in the table, so one that is not there cannot be.
-fn hertz(v: u64) -> Parameter {
+fn is_hertz(v: u64) -> bool
+    ensures { λ r. ⌜ r ≡ fitsHertz v ⌝ }
+{
     let place = frequency::place(integers::low(v));
-    narrowed(place.hertz() as u64 == v, v)
+    place.hertz() as u64 == v
 }
 
 // Digits: a bit, a frequency of the table, or a byte.
-fn fixed(width: usize, v: u64) -> Parameter {
+fn is_fixed(width: usize, v: u64) -> bool
+    ensures { λ r. ⌜ r ≡ fitsFixed width v ⌝ }
+{
     if width == 1 {
-        return narrowed(v <= 1, v);
+        return v <= 1;
     }
     if width == 4 {
-        return hertz(v);
+        return is_hertz(v);
     }
-    narrowed(integers::is_byte(v), v)
+    v < 256
 }
 
 // nnn: a 05 holds its steps with a sign, a 61 its count in 16 bits, a 65 its delay in 32.
-fn count(code: u64, v: u64) -> Parameter {
-    match code {
-        5 => narrowed(integers::is_signed(v), v),
-        61 => narrowed(integers::is_word(v), v),
-        _ => narrowed(integers::is_long(v), v),
+fn is_count(code: u64, v: u64) -> bool
+    ensures { λ r. ⌜ r ≡ fitsCount code v ⌝ }
+{
+    if code == 5 {
+        return integers::is_signed(v);
+    }
+    if code == 61 {
+        return v < 65536;
+    }
+    v < 0x1_0000_0000
+}
+
+// Whether a cell of a code can hold an integer as a parameter of a kind.
+fn fits(code: u64, kind: Kind, v: u64) -> bool
+    ensures { λ r. ⌜ r ≡ fitsKind code kind v ⌝ }
+{
+    match kind {
+        Kind::Fixed(width, _, _) => is_fixed(width, v),
+        Kind::Next => v < 256,
+        Kind::Count(_, _) => is_count(code, v),
+        Kind::Signed(_, _) => integers::is_signed(v),
+        Kind::Optional(_, _) => integers::is_signed(v),
+        Kind::Sign => (v == 1) | (v == 0xffff_ffff_ffff_ffff),
+        Kind::Multiplier => (v == 1) | (v == 4),
+        Kind::Name(_) => v < 256,
     }
 }
 
-fn of_kind(kind: Kind, code: u64, v: u64) -> Parameter {
-    match kind {
-        Kind::Fixed(width, _, _) => fixed(width, v),
-        Kind::Next => narrowed(integers::is_byte(v), v),
-        Kind::Count(_, _) => count(code, v),
-        Kind::Signed(_, _) => narrowed(integers::is_signed(v), v),
-        Kind::Optional(_, _) => narrowed(integers::is_signed(v), v),
-        Kind::Sign => sign(v),
-        Kind::Multiplier => multiplier(v),
-        Kind::Name(_) => narrowed(integers::is_byte(v), v),
+// 0 for the first of two values, which is 1, and 1 for the second.
+fn second(v: u64) -> u32
+    ensures { λ r. ⌜ r ≡ secondOf v ⌝ }
+{
+    if v == 1 {
+        return 0;
     }
+    1
+}
+
+// A parameter as the number that a cell is made of.
+fn number(kind: Kind, v: u64) -> u32
+    ensures { λ r. ⌜ r ≡ numberAs kind v ⌝ }
+{
+    match kind {
+        Kind::Fixed(_, _, _) => integers::low(v),
+        Kind::Next => integers::low(v),
+        Kind::Count(_, _) => integers::low(v),
+        Kind::Signed(_, _) => integers::low(v),
+        Kind::Optional(_, _) => integers::low(v),
+        Kind::Sign => second(v),
+        Kind::Multiplier => second(v),
+        Kind::Name(_) => integers::low(v),
+    }
+}
+
+fn all_fit(row: Row, n: [u64; 7]) -> bool
+    ensures { λ r. ⌜ r ≡ fitsRow row n ⌝ }
+{
+    let code = n[0];
+    let k0 = row.k0;
+    let k1 = row.k1;
+    let k2 = row.k2;
+    let k3 = row.k3;
+    let k4 = row.k4;
+    let k5 = row.k5;
+    fits(code, k0, n[1])
+        & fits(code, k1, n[2])
+        & fits(code, k2, n[3])
+        & fits(code, k3, n[4])
+        & fits(code, k4, n[5])
+        & fits(code, k5, n[6])
+}
+
+// The format's row has the kind Next behind the code's own fields, and the numbers there are 0; of
+// a 69 the first of them is read as its next.
+fn numbers_in(row: Row, n: [u64; 7]) -> [u32; 6]
+    ensures { λ r. ⌜ r ≡ numbersIn row n ⌝ }
+{
+    let k0 = row.k0;
+    let k1 = row.k1;
+    let k2 = row.k2;
+    let k3 = row.k3;
+    let k4 = row.k4;
+    let k5 = row.k5;
+    [
+        number(k0, n[1]),
+        number(k1, n[2]),
+        number(k2, n[3]),
+        number(k3, n[4]),
+        number(k4, n[5]),
+        number(k5, n[6]),
+    ]
 }
 
 // The cell of numbers that fit, also in a form that is never stored: a 57 with a position for V=0,
 // and a 69 with a next.
-fn raw_cell(code: u64, v: [u32; 6]) -> Cell {
+fn holding(code: u64, v: [u32; 6]) -> Cell
+    ensures { λ r. ⌜ r ≡ cellHolding code v ⌝ }
+{
     if code == 57 {
         return Cell {
             instruction: Instruction::CamSetting {
@@ -102,30 +156,14 @@ fn raw_cell(code: u64, v: [u32; 6]) -> Cell {
     numbers::cell_of(integers::low(code), v)
 }
 
-// The format's row has the kind Next behind the code's own fields, and the numbers there are 0; of
-// a 69 the first of them is read as its next.
-pub fn cell(n: [u64; 7]) -> Made {
+pub fn cell(n: [u64; 7]) -> Made
+    ensures { λ r. ⌜ r ≡ madeOf n ⌝ }
+{
     let code = n[0];
     let format = format::format_of(integers::low(code));
-    let row = format.row;
-    let k0 = row.k0;
-    let k1 = row.k1;
-    let k2 = row.k2;
-    let k3 = row.k3;
-    let k4 = row.k4;
-    let k5 = row.k5;
-    let a = of_kind(k0, code, n[1]);
-    let b = of_kind(k1, code, n[2]);
-    let c = of_kind(k2, code, n[3]);
-    let d = of_kind(k3, code, n[4]);
-    let e = of_kind(k4, code, n[5]);
-    let f = of_kind(k5, code, n[6]);
-    let known = format.known & integers::is_byte(code);
+    let known = (code < 256) & format.known;
     Made {
-        held: known & a.held & b.held & c.held & d.held & e.held & f.held,
-        cell: raw_cell(
-            code,
-            [a.number, b.number, c.number, d.number, e.number, f.number],
-        ),
+        held: known & all_fit(format.row, n),
+        cell: holding(code, numbers_in(format.row, n)),
     }
 }

@@ -1,76 +1,52 @@
-// The fields of the record that a raw write names, by their place in the list of names.
+// The fields that a raw write names, by their place in the list of names.
+ghost use mathlib.Core.Path.{_≡_};
+ghost use Rattle.raw.specs.Fields.{fieldAt};
 
-pub enum ByteField {
+pub enum Field {
     Address,
     Current,
+    Resolution,
+    Interlock,
+    Absolute,
+    MotorPosition,
+    Inputs,
+    CamSet,
+    CamPosition,
     FaultCode,
     FaultCell,
     SuspendedCell,
+    SuspendedRemaining,
+    SuspendedLoops,
     RunningCell,
-}
-
-pub enum BitField {
-    Interlock,
-    Absolute,
-    CamSet,
+    RunningPhase,
+    RunningRemaining,
+    RunningLoops,
     AtSpeed,
 }
 
-pub enum PositionField {
-    Motor,
-    Cam,
-}
-
-pub enum LoopField {
-    Suspended,
-    Running,
-}
-
-pub enum RestField {
-    Suspended,
-    Running,
-}
-
-// The fields by what they hold.
-pub enum Field {
-    Byte(ByteField),
-    Bit(BitField),
-    Position(PositionField),
-    Loops(LoopField),
-    Rest(RestField),
-    Resolution,
-    Inputs,
-    Phase,
-}
-
-// The field at a place of the list.
-pub fn field_at(place: usize) -> Field {
+// The field at a place of the list; past its end the last.
+pub fn field_at(place: usize) -> Field
+    ensures { λ r. ⌜ r ≡ fieldAt place ⌝ }
+{
     match place {
-        0 => Field::Byte(ByteField::Address),
-        1 => Field::Byte(ByteField::Current),
+        0 => Field::Address,
+        1 => Field::Current,
         2 => Field::Resolution,
-        3 => Field::Bit(BitField::Interlock),
-        4 => Field::Bit(BitField::Absolute),
-        5 => Field::Position(PositionField::Motor),
+        3 => Field::Interlock,
+        4 => Field::Absolute,
+        5 => Field::MotorPosition,
         6 => Field::Inputs,
-        7 => Field::Bit(BitField::CamSet),
-        8 => Field::Position(PositionField::Cam),
-        _ => later_field(place),
-    }
-}
-
-// The error, the interrupted record and the program under way.
-fn later_field(place: usize) -> Field {
-    match place {
-        9 => Field::Byte(ByteField::FaultCode),
-        10 => Field::Byte(ByteField::FaultCell),
-        11 => Field::Byte(ByteField::SuspendedCell),
-        12 => Field::Rest(RestField::Suspended),
-        13 => Field::Loops(LoopField::Suspended),
-        14 => Field::Byte(ByteField::RunningCell),
-        15 => Field::Phase,
-        16 => Field::Rest(RestField::Running),
-        17 => Field::Loops(LoopField::Running),
-        _ => Field::Bit(BitField::AtSpeed),
+        7 => Field::CamSet,
+        8 => Field::CamPosition,
+        9 => Field::FaultCode,
+        10 => Field::FaultCell,
+        11 => Field::SuspendedCell,
+        12 => Field::SuspendedRemaining,
+        13 => Field::SuspendedLoops,
+        14 => Field::RunningCell,
+        15 => Field::RunningPhase,
+        16 => Field::RunningRemaining,
+        17 => Field::RunningLoops,
+        _ => Field::AtSpeed,
     }
 }

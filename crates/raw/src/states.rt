@@ -1,12 +1,12 @@
-// A field of the state set to an integer.
-use crate::Raw;
+// A field of the record set to an integer, and which integers it can hold.
+ghost use mathlib.Core.Path.{_≡_};
+ghost use Rattle.machine.specs.Acting.{withResolution};
+ghost use Rattle.machine.specs.Commands.{resolutionAt};
+ghost use Rattle.raw.specs.Fields.{runningIn, phaseAt, keptOf, fitsField};
+ghost use Rattle.raw.specs.Fields.{withField, countsWith};
 use crate::integers;
-use crate::names::BitField;
-use crate::names::ByteField;
 use crate::names::Field;
-use crate::names::LoopField;
-use crate::names::PositionField;
-use crate::names::RestField;
+use crate::remaining::Counts;
 use inputs::inputs_of;
 use machine::Phase;
 use machine::Presets;
@@ -14,73 +14,20 @@ use machine::Resolution;
 use machine::Running;
 use machine::State;
 
-fn with_byte(mut state: State, field: ByteField, v: u8) -> State {
-    match field {
-        ByteField::Address => {
-            state.presets.address.0 = v;
-        }
-        ByteField::Current => {
-            state.presets.current = v;
-        }
-        ByteField::FaultCode => {
-            state.fault.code = v;
-        }
-        ByteField::FaultCell => {
-            state.fault.cell.0 = v;
-        }
-        ByteField::SuspendedCell => {
-            state.suspended.cell.0 = v;
-        }
-        ByteField::RunningCell => {
-            state.running.cell.0 = v;
-        }
-    }
-    state
+// An integer as fields of each kind keep it.
+pub struct Kept {
+    pub byte: u8,
+    pub word: u16,
+    pub bits: u32,
+    pub on: bool,
+    pub resolution: Resolution,
+    pub phase: Phase,
+    pub inputs: [bool; 11],
 }
 
-fn with_bit(mut state: State, field: BitField, on: bool) -> State {
-    match field {
-        BitField::Interlock => {
-            state.presets.interlock = on;
-        }
-        BitField::Absolute => {
-            state.presets.absolute = on;
-        }
-        BitField::CamSet => {
-            state.cam.set = on;
-        }
-        BitField::AtSpeed => {
-            state.running.at_speed = on;
-        }
-    }
-    state
-}
-
-fn with_position(mut state: State, field: PositionField, bits: u32) -> State {
-    match field {
-        PositionField::Motor => {
-            state.position.0 = bits;
-        }
-        PositionField::Cam => {
-            state.cam.position.0 = bits;
-        }
-    }
-    state
-}
-
-fn with_loops(mut state: State, field: LoopField, loops: u16) -> State {
-    match field {
-        LoopField::Suspended => {
-            state.suspended.loops = loops;
-        }
-        LoopField::Running => {
-            state.running.loops = loops;
-        }
-    }
-    state
-}
-
-fn resolution_at(place: u64) -> Resolution {
+fn resolution_at(place: u64) -> Resolution
+    ensures { λ r. ⌜ r ≡ resolutionAt place ⌝ }
+{
     match place {
         0 => Resolution::D0,
         1 => Resolution::D1,
@@ -93,21 +40,9 @@ fn resolution_at(place: u64) -> Resolution {
     }
 }
 
-fn with_resolution(mut state: State, resolution: Resolution) -> State {
-    let old = state.presets;
-    let address = old.address;
-    let presets = Presets {
-        address,
-        current: old.current,
-        resolution,
-        interlock: old.interlock,
-        absolute: old.absolute,
-    };
-    state.presets = presets;
-    state
-}
-
-fn phase_at(place: u64) -> Phase {
+fn phase_at(place: u64) -> Phase
+    ensures { λ r. ⌜ r ≡ phaseAt place ⌝ }
+{
     match place {
         0 => Phase::Waiting,
         1 => Phase::Delay,
@@ -119,69 +54,171 @@ fn phase_at(place: u64) -> Phase {
     }
 }
 
-fn with_phase(mut state: State, phase: Phase) -> State {
-    let old = state.running;
+pub fn kept_of(v: u64) -> Kept
+    ensures { λ r. ⌜ r ≡ keptOf v ⌝ }
+{
+    let word = (v % 65536) as u16;
+    Kept {
+        byte: (v % 256) as u8,
+        word,
+        bits: integers::low(v),
+        on: v == 1,
+        resolution: resolution_at(v),
+        phase: phase_at(v),
+        inputs: inputs_of(word),
+    }
+}
+
+// Whether a field can hold an integer; of a remaining count its unit decides.
+pub fn fits(field: Field, v: u64) -> bool
+    ensures { λ r. ⌜ r ≡ fitsField field v ⌝ }
+{
+    match field {
+        Field::Address => v < 256,
+        Field::Current => v < 256,
+        Field::Resolution => v <= 7,
+        Field::Interlock => v <= 1,
+        Field::Absolute => v <= 1,
+        Field::MotorPosition => integers::is_signed(v),
+        Field::Inputs => v <= 2047,
+        Field::CamSet => v <= 1,
+        Field::CamPosition => integers::is_signed(v),
+        Field::FaultCode => v < 256,
+        Field::FaultCell => v < 256,
+        Field::SuspendedCell => v < 256,
+        Field::SuspendedRemaining => true,
+        Field::SuspendedLoops => v < 65536,
+        Field::RunningCell => v < 256,
+        Field::RunningPhase => v <= 6,
+        Field::RunningRemaining => true,
+        Field::RunningLoops => v < 65536,
+        Field::AtSpeed => v <= 1,
+    }
+}
+
+fn with_resolution(old: Presets, resolution: Resolution) -> Presets
+    ensures { λ r. ⌜ r ≡ withResolution old resolution ⌝ }
+{
+    let address = old.address;
+    Presets {
+        address,
+        current: old.current,
+        resolution,
+        interlock: old.interlock,
+        absolute: old.absolute,
+    }
+}
+
+fn with_phase(old: Running, phase: Phase) -> Running
+    ensures { λ r. ⌜ r ≡ runningIn old phase ⌝ }
+{
     let cell = old.cell;
     let remaining = old.remaining;
-    let running = Running {
+    Running {
         cell,
         phase,
         remaining,
         loops: old.loops,
         at_speed: old.at_speed,
-    };
-    state.running = running;
-    state
+    }
 }
 
-fn with_inputs(mut state: State, word: u16) -> State {
-    let inputs = inputs_of(word);
-    state.inputs = inputs;
-    state
-}
-
-fn with_rest(mut raw: Raw, field: RestField, number: u64) -> Raw {
+// A field of the state set. A remaining count waits until the record is put together.
+pub fn with_field(mut state: State, field: Field, kept: Kept) -> State
+    ensures { λ r. ⌜ r ≡ withField state field kept ⌝ }
+{
     match field {
-        RestField::Suspended => {
-            raw.suspended = number;
+        Field::Address => {
+            state.presets.address.0 = kept.byte;
         }
-        RestField::Running => {
-            raw.running = number;
+        Field::Current => {
+            state.presets.current = kept.byte;
+        }
+        Field::Resolution => {
+            let resolution = kept.resolution;
+            let presets = with_resolution(state.presets, resolution);
+            state.presets = presets;
+        }
+        Field::Interlock => {
+            state.presets.interlock = kept.on;
+        }
+        Field::Absolute => {
+            state.presets.absolute = kept.on;
+        }
+        Field::MotorPosition => {
+            state.position.0 = kept.bits;
+        }
+        Field::Inputs => {
+            let inputs = kept.inputs;
+            state.inputs = inputs;
+        }
+        Field::CamSet => {
+            state.cam.set = kept.on;
+        }
+        Field::CamPosition => {
+            state.cam.position.0 = kept.bits;
+        }
+        Field::FaultCode => {
+            state.fault.code = kept.byte;
+        }
+        Field::FaultCell => {
+            state.fault.cell.0 = kept.byte;
+        }
+        Field::SuspendedCell => {
+            state.suspended.cell.0 = kept.byte;
+        }
+        Field::SuspendedRemaining => {}
+        Field::SuspendedLoops => {
+            state.suspended.loops = kept.word;
+        }
+        Field::RunningCell => {
+            state.running.cell.0 = kept.byte;
+        }
+        Field::RunningPhase => {
+            let phase = kept.phase;
+            let running = with_phase(state.running, phase);
+            state.running = running;
+        }
+        Field::RunningRemaining => {}
+        Field::RunningLoops => {
+            state.running.loops = kept.word;
+        }
+        Field::AtSpeed => {
+            state.running.at_speed = kept.on;
         }
     }
-    raw
+    state
 }
 
-// The same record with another state, if it can hold the value.
-fn with_state(mut raw: Raw, held: bool, state: State) -> Raw {
-    raw.held = held;
-    raw.state = state;
-    raw
-}
-
-// A field set to an integer. A rest waits until the record is put together.
-pub fn with_field(raw: Raw, field: Field, v: u64) -> Raw {
-    let s = raw.state;
+// Both remaining counts with a field set.
+pub fn counts_with(counts: Counts, field: Field, v: u64) -> Counts
+    ensures { λ r. ⌜ r ≡ countsWith counts field v ⌝ }
+{
     match field {
-        Field::Byte(f) => with_state(
-            raw,
-            integers::is_byte(v),
-            with_byte(s, f, integers::low_byte(v)),
-        ),
-        Field::Bit(f) => with_state(raw, v <= 1, with_bit(s, f, v == 1)),
-        Field::Position(f) => with_state(
-            raw,
-            integers::is_signed(v),
-            with_position(s, f, integers::low(v)),
-        ),
-        Field::Loops(f) => with_state(
-            raw,
-            integers::is_word(v),
-            with_loops(s, f, integers::low_word(v)),
-        ),
-        Field::Rest(f) => with_rest(raw, f, v),
-        Field::Resolution => with_state(raw, v <= 7, with_resolution(s, resolution_at(v))),
-        Field::Inputs => with_state(raw, v <= 2047, with_inputs(s, integers::low_word(v))),
-        Field::Phase => with_state(raw, v <= 6, with_phase(s, phase_at(v))),
+        Field::Address => counts,
+        Field::Current => counts,
+        Field::Resolution => counts,
+        Field::Interlock => counts,
+        Field::Absolute => counts,
+        Field::MotorPosition => counts,
+        Field::Inputs => counts,
+        Field::CamSet => counts,
+        Field::CamPosition => counts,
+        Field::FaultCode => counts,
+        Field::FaultCell => counts,
+        Field::SuspendedCell => counts,
+        Field::SuspendedRemaining => Counts {
+            suspended: v,
+            running: counts.running,
+        },
+        Field::SuspendedLoops => counts,
+        Field::RunningCell => counts,
+        Field::RunningPhase => counts,
+        Field::RunningRemaining => Counts {
+            suspended: counts.suspended,
+            running: v,
+        },
+        Field::RunningLoops => counts,
+        Field::AtSpeed => counts,
     }
 }

@@ -13,10 +13,12 @@ use input::advanced;
 use input::new_input;
 use libc::STDOUT_FILENO;
 use lines::gathering::front;
-use performed::Turn;
+use performed::perform;
 use script::call::Call;
 use script::call::Complaint;
 use script::parse;
+use seen::Out;
+use seen::put_drive;
 use units::DriveAddress;
 
 // More bytes than one line of observations has.
@@ -26,7 +28,7 @@ const ROOM: usize = 1024;
 pub enum Verdict {
     PassOver,
     Refuse(Complaint),
-    CarryOut,
+    CarryOut(Call),
 }
 
 // Whether a call may be the first: an F that is not refused.
@@ -47,7 +49,7 @@ fn judged(call: Call, begun: bool) -> Verdict {
         return Verdict::Refuse(complaint);
     }
     if begun | is_first(call) {
-        return Verdict::CarryOut;
+        return Verdict::CarryOut(call);
     }
     Verdict::Refuse(Complaint::NoDrive)
 }
@@ -75,74 +77,56 @@ fn with_room(out: &[u8], at: usize) -> usize {
     0
 }
 
-// Carries out a call, and puts down what is seen of it.
-fn called(turn: Turn, call: Call, string: &[u8; 256], numbers: [u64; 7], out: &mut [u8]) -> Turn {
-    let at = with_room(out, turn.at);
-    let next = performed::perform(turn.drive, call, string, numbers, out, at);
-    let drive = next.drive;
-    Turn {
-        drive,
-        at: seen::put_drive(drive, out, next.at),
-    }
-}
-
-// A script under way: the turn, and whether a call has made the drive, or a line was malformed.
-pub struct Run {
-    pub turn: Turn,
-    pub begun: bool,
-    pub failed: bool,
-}
-
-// Carries out the line that is whole. A malformed one is named, after all that was seen before it.
-fn line_taken(mut run: Run, input: Input, line: &[u8], out: &mut [u8]) -> Run {
+// What is to be done with the line that stands in the input; nothing before it is whole.
+fn taken(
+    input: Input,
+    line: &[u8],
+    begun: bool,
+    string: &mut [u8; 256],
+    numbers: &mut [u64; 7],
+) -> Verdict {
     if !input.whole {
-        return run;
+        return Verdict::PassOver;
     }
-    let mut string = [0u8; 256];
-    let mut numbers = [0u64; 7];
-    let call = call_of(line, input.kept, &mut string, &mut numbers);
-    let verdict = judged(call, run.begun);
-    if let Verdict::PassOver = verdict {
-        return run;
-    }
-    if let Verdict::Refuse(complaint) = verdict {
-        flush(out, run.turn.at);
-        complaints::write(input.lines, complaint);
-        run.failed = true;
-        return run;
-    }
-    let turn = called(run.turn, call, &string, numbers, out);
-    Run {
-        turn,
-        begun: true,
-        failed: false,
-    }
+    judged(call_of(line, input.kept, string, numbers), begun)
 }
 
-fn new_run() -> Run {
+// Names a malformed line, after all that was seen before it.
+fn refuse(out: &[u8], at: usize, line: u64, complaint: Complaint) {
+    flush(out, at);
+    complaints::write(line, complaint);
+}
+
+fn first_drive() -> Drive {
     let made = Drive::fresh(DriveAddress(0));
-    let drive = made.drive;
-    Run {
-        turn: Turn { drive, at: 0 },
-        begun: false,
-        failed: false,
-    }
+    made.drive
 }
 
 // Nothing says that an input ends, so the turns are counted, down from a number that no script uses
 // up.
-fn replay(block: &mut [u8], line: &mut [u8], out: &mut [u8]) {
-    let mut run = new_run();
+fn replay(block: &mut [u8], line: &mut [u8], out: &mut Out) {
+    let mut drive = first_drive();
+    let mut begun = false;
+    let mut at: usize = 0;
     let mut input = new_input();
     let mut turns = u64::MAX;
     while turns > 0 {
         input = advanced(input, block, line);
-        run = line_taken(run, input, line, out);
-        if run.failed {
+        let mut string = [0u8; 256];
+        let mut numbers = [0u64; 7];
+        let verdict = taken(input, line, begun, &mut string, &mut numbers);
+        if let Verdict::Refuse(complaint) = verdict {
+            refuse(out, at, input.lines, complaint);
             return;
         }
+        if let Verdict::CarryOut(call) = verdict {
+            at = with_room(out, at);
+            drive = perform(drive, call, &string, numbers, out, &mut at);
+            at = put_drive(drive, out, at);
+            begun = true;
+        }
         if input.ended {
-            flush(out, run.turn.at);
+            flush(out, at);
             return;
         }
         turns -= 1;

@@ -1,9 +1,13 @@
 // The calls, each with the first five words of what is seen of it: refusal, answer, buffer, end and
-// count.
+// count. A call hands back the next drive alone and moves the place after what was seen, and an arm
+// returns what it makes: the check of a function takes longer with each value that holds a drive.
 use crate::reading;
 use crate::seen;
+use crate::seen::Out;
 use drive::Drive;
 use drive::results::Done;
+use drive::results::Told;
+use drive::results::Waited;
 use lines::gathering::front;
 use machine::Machine;
 use raw::Written;
@@ -13,12 +17,6 @@ use script::call::Look;
 use script::call::Write;
 use units::DriveAddress;
 use units::Milliseconds;
-
-// The drive after a call, and the place after what was seen.
-pub struct Turn {
-    pub drive: Drive,
-    pub at: usize,
-}
 
 // An address above 255 is refused as 255 is.
 fn address(number: u32) -> DriveAddress {
@@ -36,33 +34,36 @@ fn word(number: u32) -> u16 {
     number as u16
 }
 
+fn put_done(done: Done, out: &mut Out, at: &mut usize) {
+    let refusal = done.refusal;
+    *at = seen::put_plain(out, *at, refusal.number());
+}
+
 // A refused address leaves the drive before in use.
-fn fresh(drive: Drive, number: u32) -> Done {
+fn make(mut drive: Drive, number: u32, out: &mut Out, at: &mut usize) -> Drive {
     let made = Drive::fresh(address(number));
+    put_done(made, out, at);
     let refusal = made.refusal;
-    if refusal.number() != 0 {
-        return Done { refusal, drive };
+    if refusal.number() == 0 {
+        drive = made.drive;
     }
-    made
+    drive
 }
 
 fn event(drive: Drive, event: Event) -> Done {
     match event {
-        Event::Inputs(number) => drive.inputs(word(number)),
-        Event::Millisecond => drive.millisecond(),
-        Event::Step => drive.step(),
-        Event::AtSpeed => drive.at_speed(),
-        Event::Halted => drive.halted(),
+        Event::Inputs(number) => return drive.inputs(word(number)),
+        Event::Millisecond => return drive.millisecond(),
+        Event::Step => return drive.step(),
+        Event::AtSpeed => return drive.at_speed(),
+        Event::Halted => return drive.halted(),
     }
 }
 
-fn done(done: Done, out: &mut [u8], at: usize) -> Turn {
-    let refusal = done.refusal;
-    let drive = done.drive;
-    Turn {
-        drive,
-        at: seen::put_plain(out, at, refusal.number()),
-    }
+fn happen(drive: Drive, e: Event, out: &mut Out, at: &mut usize) -> Drive {
+    let done = event(drive, e);
+    put_done(done, out, at);
+    done.drive
 }
 
 // The first bytes of a buffer, all of it where it has no more.
@@ -73,32 +74,41 @@ fn lent(space: &mut [u8], n: usize) -> &mut [u8] {
     &mut space[0..n]
 }
 
+fn put_told(told: Told, buffer: &[u8], out: &mut Out, at: &mut usize) {
+    let refusal = told.refusal;
+    *at = seen::put_told(out, *at, refusal.number(), told.length, buffer);
+}
+
 // A string, with a buffer of some size, each byte of one value.
-fn tell(drive: Drive, string: &[u8], size: usize, fill: u8, out: &mut [u8], at: usize) -> Turn {
+fn tell(
+    drive: Drive,
+    string: &[u8],
+    size: usize,
+    fill: u8,
+    out: &mut Out,
+    at: &mut usize,
+) -> Drive {
     let mut space = [fill; 256];
     let buffer = lent(&mut space, size);
     let told = drive.string(string, buffer);
-    let after = told.drive;
-    let refusal = told.refusal;
-    Turn {
-        drive: after,
-        at: seen::put_told(out, at, refusal.number(), told.length, buffer),
-    }
+    put_told(told, buffer, out, at);
+    told.drive
 }
 
-fn wait(drive: Drive, budget: u32, out: &mut [u8], at: usize) -> Turn {
-    let waited = drive.wait(Milliseconds(budget));
-    let after = waited.drive;
+fn put_waited(waited: Waited, out: &mut Out, at: &mut usize) {
     let refusal = waited.refusal;
     let ending = waited.ending;
-    Turn {
-        drive: after,
-        at: seen::put_waited(out, at, refusal.number(), ending),
-    }
+    *at = seen::put_waited(out, *at, refusal.number(), ending);
+}
+
+fn wait(drive: Drive, budget: u32, out: &mut Out, at: &mut usize) -> Drive {
+    let waited = drive.wait(Milliseconds(budget));
+    put_waited(waited, out, at);
+    waited.drive
 }
 
 // What leaves the drive as it is.
-fn put_look(drive: Drive, look: Look, out: &mut [u8], at: usize) -> usize {
+fn put_look(drive: Drive, look: Look, out: &mut Out, at: usize) -> usize {
     match look {
         Look::Order => seen::put_order(out, at, drive.order()),
         Look::Rounding(number) => seen::put_rounded(out, at, frequency::round(number)),
@@ -106,48 +116,56 @@ fn put_look(drive: Drive, look: Look, out: &mut [u8], at: usize) -> usize {
     }
 }
 
-fn write(machine: Machine, write: Write, numbers: [u64; 7]) -> Written {
+fn written(machine: Machine, write: Write, numbers: [u64; 7]) -> Written {
     match write {
-        Write::Field { place, value } => raw::write_field(machine, place, value),
-        Write::Output { place, value } => raw::write_output(machine, place, value),
-        Write::Cell { place } => raw::write_cell(machine, place, numbers),
+        Write::Field { place, value } => return raw::write_field(machine, place, value),
+        Write::Output { place, value } => return raw::write_output(machine, place, value),
+        Write::Cell { place } => return raw::write_cell(machine, place, numbers),
     }
 }
 
-fn written(drive: Drive, written: Written, out: &mut [u8], at: usize) -> Turn {
-    let machine = written.machine;
-    let end = seen::put_verdict(out, at, written.held, soundness::sound(machine));
+fn put_written(written: Written, out: &mut Out, at: &mut usize) {
+    let sound = soundness::sound(written.machine);
+    *at = seen::put_verdict(out, *at, written.held, sound);
+}
+
+// A record that cannot hold the value leaves the drive as it was.
+fn write(
+    mut drive: Drive,
+    write: Write,
+    numbers: [u64; 7],
+    out: &mut Out,
+    at: &mut usize,
+) -> Drive {
+    let written = written(drive.machine, write, numbers);
+    put_written(written, out, at);
     if written.held {
-        return Turn {
-            drive: Drive { machine },
-            at: end,
-        };
+        let machine = written.machine;
+        drive = Drive { machine };
     }
-    Turn { drive, at: end }
+    drive
 }
 
 // Carries out a call. A comment and a malformed line are none.
 pub fn perform(
-    drive: Drive,
+    mut drive: Drive,
     call: Call,
     string: &[u8; 256],
     numbers: [u64; 7],
-    out: &mut [u8],
-    at: usize,
-) -> Turn {
+    out: &mut Out,
+    at: &mut usize,
+) -> Drive {
     match call {
-        Call::Comment => Turn { drive, at },
-        Call::Malformed(_) => Turn { drive, at },
-        Call::Fresh(number) => done(fresh(drive, number), out, at),
+        Call::Comment => {}
+        Call::Malformed(_) => {}
+        Call::Fresh(number) => drive = make(drive, number, out, at),
         Call::Tell { length, size, fill } => {
-            tell(drive, front(string, length), size, fill, out, at)
+            drive = tell(drive, front(string, length), size, fill, out, at)
         }
-        Call::Happens(e) => done(event(drive, e), out, at),
-        Call::Wait(budget) => wait(drive, budget, out, at),
-        Call::Looks(look) => Turn {
-            drive,
-            at: put_look(drive, look, out, at),
-        },
-        Call::Writes(w) => written(drive, write(drive.machine, w, numbers), out, at),
+        Call::Happens(e) => drive = happen(drive, e, out, at),
+        Call::Wait(budget) => drive = wait(drive, budget, out, at),
+        Call::Looks(look) => *at = put_look(drive, look, out, *at),
+        Call::Writes(w) => drive = write(drive, w, numbers, out, at),
     }
+    drive
 }

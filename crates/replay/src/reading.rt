@@ -55,15 +55,18 @@ fn with_answer(asked: Asked, number: u8, answer: &[u8]) -> Asked {
     Asked { number, sum }
 }
 
-// Sends one request, with a buffer of 64 bytes. It leaves the drive as it is.
-fn ask(drive: Drive, asked: Asked, k: usize) -> Asked {
-    let mut string = [0u8; 16];
+// Sends a request, with a buffer of 64 bytes. It leaves the drive as it is.
+fn send(drive: Drive, asked: Asked, string: &[u8]) -> Asked {
     let mut buffer = [0u8; 64];
-    let state = drive.machine.state;
-    let n = put_string(&mut string, state.presets.address.0, k);
-    let told = drive.string(front(&string, n), &mut buffer);
+    let told = drive.string(string, &mut buffer);
     let refusal = told.refusal;
     with_answer(asked, refusal.number(), front(&buffer, told.length))
+}
+
+fn ask(drive: Drive, asked: Asked, k: usize) -> Asked {
+    let mut string = [0u8; 16];
+    let n = put_string(&mut string, drive.machine.state.presets.address.0, k);
+    send(drive, asked, front(&string, n))
 }
 
 fn ask_all(drive: Drive) -> Asked {

@@ -12,6 +12,9 @@ use observed::outputs::gather_outputs;
 use observed::shown::gather_shown;
 use observed::sums::Sum;
 
+// Where what is seen is gathered, before it is written.
+pub type Out = [u8; 65536];
+
 // A refusal's number; 0 is none.
 pub fn put_refusal(out: &mut [u8], at: usize, number: u8) -> usize {
     if number == 0 {
@@ -120,7 +123,6 @@ fn put_end(out: &mut [u8], at: usize, ordered: Ordered, outputs: [bool; 14]) -> 
 }
 
 pub fn put_drive(drive: Drive, out: &mut [u8], at: usize) -> usize {
-    let state = drive.machine.state;
-    let outputs = state.outputs;
+    let outputs = drive.machine.state.outputs;
     put_end(out, at, drive.order(), outputs)
 }

@@ -23,6 +23,7 @@ use Rattle.fields.specs.declared.names.Names.the-variants.{Outputs, Inputs, Pre
 use Rattle.fields.specs.declared.rows.Row.{Row}
 use Rattle.fields.proofs.Bounds.{between-valid}
 use Rattle.fields.proofs.Lengths.{fields-most}
+use Rattle.units.specs.Limits.{loopLimit}
 use Rattle.units.specs.declared.CellAddress.{CellAddress}
 use Rattle.format.specs.Formats.{cell, bit}
 use Rattle.instruction.specs.Numbers.{bitOf, six}
@@ -206,16 +207,16 @@ unfolding texts suspendedText
 empty-put aa x r t e p = put-asked aa 82 "QR" refl p (rw e (sym (choose-true _ _ _ (eq-eqb _ _ t))))
 
 pub suspended-ready : (aa : StringAddress) (v : ℕ) (x : Suspended) (k : Kind) (r : Row) (l : List ℕ) → Ready aa l →
-    r ≡ rowOf 3 cell k (Count 0 65535) →
-    k ≡ anySigned → valid Next (x .cell .0) ≡ true → (x .cell .0 ≡ 0 → ⊥) → v < 2 ^ 32 → x .loops ≤ 65535 →
+    r ≡ rowOf 3 cell k (Count 0 loopLimit) →
+    k ≡ anySigned → valid Next (x .cell .0) ≡ true → (x .cell .0 ≡ 0 → ⊥) → v < 2 ^ 32 → x .loops ≤ loopLimit →
     ReadyRow aa r (six (x .cell .0) v (x .loops) 0 0 0) l
 unfolding rows
 suspended-ready aa v x k r l h e q t n b c =
-    ready-row aa r (rowOf 3 cell anySigned (Count 0 65535)) _ l h (e ∙ ap (λ (y : Kind). rowOf 3 cell y (Count 0 65535)) q) refl
-    (both-true (suspended-valid (x .cell .0) t n) (both-true (signed-valid v b) (both-true (between-valid 0 65535 (x .loops) (omega arith) c) refl)))
+    ready-row aa r (rowOf 3 cell anySigned (Count 0 loopLimit)) _ l h (e ∙ ap (λ (y : Kind). rowOf 3 cell y (Count 0 loopLimit)) q) refl
+    (both-true (suspended-valid (x .cell .0) t n) (both-true (signed-valid v b) (both-true (between-valid 0 loopLimit (x .loops) (omega arith) c) refl)))
 
 pub suspended-put : {l l′ : List ℕ} {e : ℕ} (aa : StringAddress) (v : ℕ) (x : Suspended) (k : Kind) (r : Row) → (x .cell .0 ≡ 0 → ⊥) →
-    r ≡ rowOf 3 cell k (Count 0 65535) → k ≡ anySigned → v ≡ remainingBits (x .remaining) →
+    r ≡ rowOf 3 cell k (Count 0 loopLimit) → k ≡ anySigned → v ≡ remainingBits (x .remaining) →
     Put l l′ (requestAnswer aa 82 (printRow r (six (x .cell .0) v (x .loops) 0 0 0))) 0 e → Put l l′ (answerOf aa "QR" (suspendedText x)) 0 e
 unfolding texts suspendedText
 suspended-put aa v x k r n e q w p = put-asked aa 82 "QR" refl p (rw (e, q, w) (sym (choose-false _ _ _ (ne-eqb _ _ n))))

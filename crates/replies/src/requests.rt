@@ -30,6 +30,10 @@ use machine::Suspended;
 use machine::commands::StringAddress;
 use machine::commands::preset_kind;
 use units::CellAddress;
+use units::LOOP_LIMIT;
+
+// nnn of an interrupted loop count.
+const LOOPS: Kind = Kind::Count(0, LOOP_LIMIT as u32);
 
 // QA: the position.
 pub fn put_position(buf: &mut [u8], aa: StringAddress, state: State) -> usize
@@ -131,13 +135,8 @@ pub fn put_suspended(buf: &mut [u8], aa: StringAddress, suspended: Suspended) ->
         return put_row(buf, aa, b'R', shown, [0, 0, 0, 0, 0, 0]);
     }
     let remaining = suspended.remaining;
-    let rest = remaining_bits(remaining);
+    let bits = remaining_bits(remaining);
     let loops = suspended.loops as u32;
-    let shown = row(
-        3,
-        Kind::Fixed(3, 100, 230),
-        any_signed(),
-        Kind::Count(0, 65535),
-    );
-    put_row(buf, aa, b'R', shown, [cell, rest, loops, 0, 0, 0])
+    let shown = row(3, Kind::Fixed(3, 100, 230), any_signed(), LOOPS);
+    put_row(buf, aa, b'R', shown, [cell, bits, loops, 0, 0, 0])
 }

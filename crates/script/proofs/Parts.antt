@@ -1,19 +1,19 @@
--- The first part of a text, and the next.
+-- The parts of a text: how many, the first, and the next.
 -- Assumes nothing.
 use Prim.Native.Nat.{ℕ, zero, suc, _+_, _-_, _≤_, _<_}
+use native.Mathlib.Numerals.{add-one}
 use native.Mathlib.Omega.{arith}
 use mathlib.Core.Path.{_≡_, refl, sym, ap, _∙_}
 use mathlib.Core.Bool.{Bool, true, false}
 use mathlib.Core.Logic.{⊎-elim}
 use mathlib.Core.List.{List, [], _∷_}
 use lib.ListN.{length, take, drop, getD, drop-of-length-le}
-use lib.Seq.{take-nil, drop-drop}
+use lib.Seq.{take-nil, drop-drop, drop-cons, drop-length}
 use lib.Dec.{eqb}
-use borrow.Author.Tests.{lt-ltb, le-ltb}
-use Rattle.laws.specs.Tests.{choose}
+use borrow.Author.Tests.{lt-ltb, le-ltb, eq-eqb, ne-eqb}
 use Rattle.laws.proofs.Tests.{lt-or-le, choose-true, choose-false}
 use Rattle.bytes.specs.Bytes.{indexAfter, indexOf}
-use Rattle.script.specs.Words.{placeFrom, inFirst, partsOf, partAt}
+use Rattle.script.specs.Words.{placeFrom, inFirst, partsFrom, partsOf, partAt}
 
 -- ---- the place of a byte
 
@@ -39,8 +39,8 @@ next-in b k (p ∷ ps) = refl
 
 first-of :
     (t : Bool) (b s : ℕ) (l : List ℕ) → getD (partsOf s l) 0 [] ≡ take (indexOf s l) l →
-    getD (choose t ([] ∷ partsOf s l) (inFirst b (partsOf s l))) 0 [] ≡ take (indexAfter t (indexOf s l)) (b ∷ l)
-unfolding choose indexAfter
+    getD (partsFrom t b (partsOf s l)) 0 [] ≡ take (indexAfter t (indexOf s l)) (b ∷ l)
+unfolding partsFrom indexAfter
 first-of true b s l h = refl
 first-of false b s l h = first-in b (partsOf s l) ∙ ap (λ (x : List ℕ). b ∷ x) h
 
@@ -56,8 +56,8 @@ parts-none s (suc k) = refl
 
 next-of :
     (t : Bool) (b s : ℕ) (l : List ℕ) (k : ℕ) → getD (partsOf s l) (suc k) [] ≡ getD (partsOf s (drop (suc (indexOf s l)) l)) k [] →
-    getD (choose t ([] ∷ partsOf s l) (inFirst b (partsOf s l))) (suc k) [] ≡ getD (partsOf s (drop (suc (indexAfter t (indexOf s l))) (b ∷ l))) k []
-unfolding choose indexAfter
+    getD (partsFrom t b (partsOf s l)) (suc k) [] ≡ getD (partsOf s (drop (suc (indexAfter t (indexOf s l))) (b ∷ l))) k []
+unfolding partsFrom indexAfter
 next-of true b s l k h = refl
 next-of false b s l k h = next-in b k (partsOf s l) ∙ h
 
@@ -65,6 +65,43 @@ parts-next : (s : ℕ) (l : List ℕ) (k : ℕ) → getD (partsOf s l) (suc k) [
 unfolding partsOf indexOf
 parts-next s [] k = sym (parts-none s k)
 parts-next s (b ∷ l) k = next-of (eqb b s) b s l k (parts-next s l k)
+
+-- ---- how many
+
+from-some : (t : Bool) (b : ℕ) (ps : List (List ℕ)) → 0 < length (partsFrom t b ps)
+unfolding partsFrom inFirst
+from-some true b ps = omega arith
+from-some false b [] = omega arith
+from-some false b (p ∷ ps) = omega arith
+
+parts-some : (s : ℕ) (l : List ℕ) → 0 < length (partsOf s l)
+unfolding partsOf
+parts-some s [] = omega arith
+parts-some s (b ∷ l) = from-some (eqb b s) b (partsOf s l)
+
+length-first : (b : ℕ) (ps : List (List ℕ)) → 0 < length ps → length (inFirst b ps) ≡ length ps
+unfolding inFirst
+length-first b [] h = absurd (omega arith)
+length-first b (p ∷ ps) h = refl
+
+-- a separator begins one more, any other byte none
+pub count-separator :
+    (s i : ℕ) (l : List ℕ) → i < length l → getD l i 0 ≡ s →
+    length (partsOf s (drop i l)) ≡ suc (length (partsOf s (drop (i + 1) l)))
+unfolding partsOf partsFrom
+count-separator s i l h e = rw (add-one i, drop-cons l i 0 h) (simp (eq-eqb (getD l i 0) s e))
+
+pub count-other :
+    (s i : ℕ) (l : List ℕ) → i < length l → (getD l i 0 ≡ s → ⊥) →
+    length (partsOf s (drop i l)) ≡ length (partsOf s (drop (i + 1) l))
+unfolding partsOf partsFrom
+count-other s i l h n =
+    rw (add-one i, drop-cons l i 0 h)
+    (simp (ne-eqb (getD l i 0) s n) (length-first (getD l i 0) (partsOf s (drop (suc i) l)) (parts-some s (drop (suc i) l))))
+
+pub count-end : (s i : ℕ) (l : List ℕ) → i ≡ length l → length (partsOf s (drop i l)) ≡ 1
+unfolding partsOf
+count-end s i l e = rw (e, drop-length l)
 
 -- ---- from a place on
 

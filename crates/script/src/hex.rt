@@ -1,4 +1,6 @@
 // The bytes of a string in lower-case hex.
+ghost use mathlib.Core.Path.{_≡_};
+ghost use Rattle.script.specs.Hex.{nibbleOf, pairOf, decodedOf, textOf};
 
 // How many bytes were read, or that a word is not so many bytes in hex.
 pub enum Decoded {
@@ -7,7 +9,9 @@ pub enum Decoded {
 }
 
 // The value of a digit, above 15 where it is none.
-fn nibble(digit: u8) -> u8 {
+fn nibble(digit: u8) -> u8
+    ensures { λ r. ⌜ r ≡ nibbleOf digit ⌝ }
+{
     match digit {
         b'0'..=b'9' => digit - b'0',
         b'a'..=b'f' => digit - b'a' + 10,
@@ -16,7 +20,9 @@ fn nibble(digit: u8) -> u8 {
 }
 
 // Two digits as a byte, or 256.
-fn pair(high: u8, low: u8) -> u16 {
+fn pair(high: u8, low: u8) -> u16
+    ensures { λ r. ⌜ r ≡ pairOf high low ⌝ }
+{
     if 15 < high {
         return 256;
     }
@@ -27,7 +33,10 @@ fn pair(high: u8, low: u8) -> u16 {
 }
 
 // At most 256 bytes, put at the front of the text; `-` for none.
-pub fn decode(word: &[u8], text: &mut [u8; 256]) -> Decoded {
+pub fn decode(word: &[u8], text: &mut [u8; 256]) -> Decoded
+    ensures { λ r. ⌜ r ≡ decodedOf (now (word .entry)) ⌝ }
+    ensures text { λ r. ⌜ now (text .exit) ≡ textOf (now (word .entry)) (now (text .entry)) ⌝ }
+{
     if check::same(word, b"-") {
         return Decoded::Bytes(0);
     }

@@ -1,5 +1,6 @@
 // Numbers of a script. A signed one is held as its 64 bits in two's complement.
 ghost use mathlib.Core.Path.{_≡_};
+ghost use Rattle.script.specs.Numbers.{unsignedOf, positive, negative, integerOf};
 use decimal::parse::Number;
 
 // A number with a sign, or that a word is none.
@@ -15,7 +16,9 @@ fn wide(b: u8) -> u64
 }
 
 // Decimal digits, at most 4294967295.
-pub fn unsigned(word: &[u8]) -> Number {
+pub fn unsigned(word: &[u8]) -> Number
+    ensures { λ r. ⌜ r ≡ unsignedOf (now (word .entry)) ⌝ }
+{
     if word.len() == 0 {
         return Number::Bad;
     }
@@ -38,14 +41,18 @@ pub fn unsigned(word: &[u8]) -> Number {
     Number::Value(value as u32)
 }
 
-pub fn plus(number: Number) -> Integer {
+pub fn plus(number: Number) -> Integer
+    ensures { λ r. ⌜ r ≡ positive number ⌝ }
+{
     match number {
         Number::Bad => Integer::Bad,
         Number::Value(v) => Integer::Value(v as u64),
     }
 }
 
-fn minus(number: Number) -> Integer {
+fn minus(number: Number) -> Integer
+    ensures { λ r. ⌜ r ≡ negative number ⌝ }
+{
     match number {
         Number::Bad => Integer::Bad,
         Number::Value(v) => Integer::Value(std::num::wrapping_sub_u64(0, v as u64)),
@@ -53,7 +60,9 @@ fn minus(number: Number) -> Integer {
 }
 
 // The same with a sign before it, which may be left out.
-pub fn signed(word: &[u8]) -> Integer {
+pub fn signed(word: &[u8]) -> Integer
+    ensures { λ r. ⌜ r ≡ integerOf (now (word .entry)) ⌝ }
+{
     if word.len() == 0 {
         return Integer::Bad;
     }

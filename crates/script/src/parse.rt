@@ -1,4 +1,12 @@
 // A line of a script as a call.
+ghost use mathlib.Core.Path.{_≡_};
+ghost use mathlib.Core.List.{[]};
+ghost use lib.ListN.{length, getD};
+ghost use Rattle.script.specs.Words.{wordsOf};
+ghost use Rattle.script.specs.Hex.{textOf};
+ghost use Rattle.script.specs.Calls.{formOf, wordCount, aloneCall, numberCall, onNumber};
+ghost use Rattle.script.specs.Calls.{withBuffer, stringOf, counted, countedText};
+ghost use Rattle.script.specs.Calls.{isComment, callOf, textAfter, numbersAfter};
 use crate::call::Call;
 use crate::call::Complaint;
 use crate::call::Event;
@@ -11,16 +19,28 @@ use crate::writes;
 use decimal::parse::Number;
 
 // How many words the calls have; 0 where the letter names none.
-fn words_of(letter: u8) -> usize {
+fn words_of(letter: u8) -> usize
+    ensures { λ r. ⌜ r ≡ wordCount (formOf letter) ⌝ }
+{
     match letter {
-        b'M' | b'P' | b'A' | b'H' | b'B' | b'Q' => 1,
-        b'F' | b'I' | b'W' | b'R' => 2,
+        b'F' => 2,
         b'S' => 4,
+        b'I' => 2,
+        b'M' => 1,
+        b'P' => 1,
+        b'A' => 1,
+        b'H' => 1,
+        b'W' => 2,
+        b'B' => 1,
+        b'R' => 2,
+        b'Q' => 1,
         _ => 0,
     }
 }
 
-fn plain(letter: u8) -> Call {
+fn plain(letter: u8) -> Call
+    ensures { λ r. ⌜ r ≡ aloneCall (formOf letter) ⌝ }
+{
     match letter {
         b'M' => Call::Happens(Event::Millisecond),
         b'P' => Call::Happens(Event::Step),
@@ -31,7 +51,9 @@ fn plain(letter: u8) -> Call {
     }
 }
 
-fn with_number(letter: u8, number: Number) -> Call {
+fn with_number(letter: u8, number: Number) -> Call
+    ensures { λ r. ⌜ r ≡ onNumber (numberCall (formOf letter)) number ⌝ }
+{
     let Number::Value(v) = number else {
         return Call::Malformed(Complaint::NotANumber);
     };
@@ -43,7 +65,9 @@ fn with_number(letter: u8, number: Number) -> Call {
     }
 }
 
-fn with_buffer(length: usize, size: u32, fill: u32) -> Call {
+fn with_buffer(length: usize, size: u32, fill: u32) -> Call
+    ensures { λ r. ⌜ r ≡ withBuffer length size fill ⌝ }
+{
     if 256 < size {
         return Call::Malformed(Complaint::NumberTooLarge);
     }
@@ -57,7 +81,11 @@ fn with_buffer(length: usize, size: u32, fill: u32) -> Call {
     }
 }
 
-fn string(line: &[u8], text: &mut [u8; 256]) -> Call {
+fn string(line: &[u8], text: &mut [u8; 256]) -> Call
+    ensures { λ r. ⌜ r ≡ stringOf (wordsOf (now (line .entry))) ⌝ }
+    ensures text { λ r. ⌜ now (text .exit) ≡
+        textOf (getD (wordsOf (now (line .entry))) 1 []) (now (text .entry)) ⌝ }
+{
     let decoded = hex::decode(words::part(line, 1, b' '), text);
     let Decoded::Bytes(length) = decoded else {
         return Call::Malformed(Complaint::NotHex);
@@ -73,7 +101,12 @@ fn string(line: &[u8], text: &mut [u8; 256]) -> Call {
     with_buffer(length, size, fill)
 }
 
-fn of_letter(letter: u8, line: &[u8], count: usize, text: &mut [u8; 256]) -> Call {
+fn of_letter(letter: u8, line: &[u8], count: usize, text: &mut [u8; 256]) -> Call
+    requires { ⌜ count ≡ length (wordsOf (now line)) ⌝ }
+    ensures { λ r. ⌜ r ≡ counted (formOf letter) (wordsOf (now (line .entry))) ⌝ }
+    ensures text { λ r. ⌜ now (text .exit) ≡
+        countedText (formOf letter) (wordsOf (now (line .entry))) (now (text .entry)) ⌝ }
+{
     let wanted = words_of(letter);
     if wanted == 0 {
         return Call::Malformed(Complaint::NotACall);
@@ -90,13 +123,27 @@ fn of_letter(letter: u8, line: &[u8], count: usize, text: &mut [u8; 256]) -> Cal
     string(line, text)
 }
 
+// Whether a line is a comment.
+fn is_comment(line: &[u8]) -> bool
+    ensures { λ r. ⌜ r ≡ isComment (now (line .entry)) ⌝ }
+{
+    if line.len() == 0 {
+        return false;
+    }
+    line[0] == b'#'
+}
+
 // The call of a line. The bytes of a string are put into the text, the numbers of a raw cell into
-// the numbers, which are zeros before.
-pub fn parse(line: &[u8], text: &mut [u8; 256], numbers: &mut [u64; 7]) -> Call {
-    if 0 < line.len() {
-        if line[0] == b'#' {
-            return Call::Comment;
-        }
+// the numbers; what they leave of them is as it was.
+pub fn parse(line: &[u8], text: &mut [u8; 256], numbers: &mut [u64; 7]) -> Call
+    ensures { λ r. ⌜ r ≡ callOf (now (line .entry)) ⌝ }
+    ensures text { λ r. ⌜ now (text .exit) ≡
+        textAfter (now (line .entry)) (now (text .entry)) ⌝ }
+    ensures numbers { λ r. ⌜ now (numbers .exit) ≡
+        numbersAfter (now (line .entry)) (now (numbers .entry)) ⌝ }
+{
+    if is_comment(line) {
+        return Call::Comment;
     }
     let count = words::count(line, b' ');
     let first = words::part(line, 0, b' ');

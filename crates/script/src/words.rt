@@ -3,7 +3,7 @@
 ghost use mathlib.Core.Path.{_≡_};
 ghost use Prim.Native.Nat.{_≤_};
 ghost use lib.ListN.{length, drop};
-ghost use Rattle.script.specs.Words.{placeFrom, partAt};
+ghost use Rattle.script.specs.Words.{placeFrom, partsOf, partAt, wordsOf, placeOf};
 
 // The first place from `from` on where a byte stands, or the end.
 pub fn find(s: &[u8], from: usize, byte: u8) -> usize
@@ -17,7 +17,9 @@ pub fn find(s: &[u8], from: usize, byte: u8) -> usize
 }
 
 // How many parts there are: one more than separators.
-pub(crate) fn count(text: &[u8], separator: u8) -> usize {
+pub(crate) fn count(text: &[u8], separator: u8) -> usize
+    ensures { λ r. ⌜ r ≡ length (partsOf separator (now (text .entry))) ⌝ }
+{
     let mut n: usize = 1;
     let mut i = 0;
     while i < text.len() {
@@ -56,7 +58,9 @@ pub fn part(text: &[u8], k: usize, separator: u8) -> &[u8]
 }
 
 // The place of a name in a list of words, or how many there are.
-pub(crate) fn place(name: &[u8], list: &[u8]) -> usize {
+pub(crate) fn place(name: &[u8], list: &[u8]) -> usize
+    ensures { λ r. ⌜ r ≡ placeOf (now (name .entry)) (wordsOf (now (list .entry))) ⌝ }
+{
     let n = count(list, b' ');
     let mut k: usize = 0;
     while k < n {

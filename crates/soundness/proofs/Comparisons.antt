@@ -13,7 +13,7 @@ use Rattle.units.specs.Limits.{loopLimit}
 use Rattle.units.specs.Remaining.{isNegativeOf}
 use Rattle.units.specs.declared.Steps.{Steps}
 use Rattle.units.specs.declared.position.Position.{Position}
-use Rattle.machine.specs.Soundness.{positionSound, loopCountSound, stepsRest, isStepsAlong}
+use Rattle.machine.specs.Soundness.{positionSound, loopCountSound, stepsRemaining, isStepsAlong}
 use Rattle.machine.specs.declared.Remaining.the-variants.{Counted}
 
 beq-same : (a b : Bool) → Bool·beq a b ≡ same a b
@@ -35,6 +35,6 @@ position-pass p x f = rw (lt-ltb (p .0) _ (f .fits))
 
 -- 01: "along s": the sign of the steps is that of the direction
 pub steps-along :
-    (s : Bool) (n : Steps) {a b : Bool} → a ≡ stepsRest n → b ≡ isNegativeOf n → a && Bool·beq b s ≡ isStepsAlong s (Counted n)
+    (s : Bool) (n : Steps) {a b : Bool} → a ≡ stepsRemaining n → b ≡ isNegativeOf n → a && Bool·beq b s ≡ isStepsAlong s (Counted n)
 unfolding isStepsAlong
 steps-along s n p q = rw (p, q, beq-same (isNegativeOf n) s) (and-both _ _)

@@ -1,22 +1,22 @@
 // The tests of what remains of a run or a delay.
 ghost use mathlib.Core.Path.{_≡_};
-ghost use Rattle.machine.specs.Soundness.{stepsRest, timeRest, isStepsAlong};
+ghost use Rattle.machine.specs.Soundness.{stepsRemaining, timeRemaining, isStepsAlong};
 ghost use Rattle.machine.specs.Soundness.{isNothing, isSteps, isTime};
 use machine::Remaining;
 use units::Milliseconds;
 use units::Steps;
 
 // 01: "a rest is within 33,554,428 either way".
-pub fn steps_rest(n: Steps) -> bool
-    ensures { λ r. ⌜ r ≡ stepsRest n ⌝ }
+pub fn steps_remaining(n: Steps) -> bool
+    ensures { λ r. ⌜ r ≡ stepsRemaining n ⌝ }
 {
-    (-Steps::REST_LIMIT <= n.0) & (n.0 <= Steps::REST_LIMIT) & !n.is_zero()
+    (-Steps::REMAINING_LIMIT <= n.0) & (n.0 <= Steps::REMAINING_LIMIT) & !n.is_zero()
 }
 
-pub fn time_rest(n: Milliseconds) -> bool
-    ensures { λ r. ⌜ r ≡ timeRest n ⌝ }
+pub fn time_remaining(n: Milliseconds) -> bool
+    ensures { λ r. ⌜ r ≡ timeRemaining n ⌝ }
 {
-    (1 <= n.0) & (n.0 <= Milliseconds::REST_LIMIT)
+    (1 <= n.0) & (n.0 <= Milliseconds::REMAINING_LIMIT)
 }
 
 pub fn is_nothing(remaining: Remaining) -> bool
@@ -34,7 +34,7 @@ pub fn is_steps(remaining: Remaining) -> bool
 {
     match remaining {
         Remaining::Nothing => false,
-        Remaining::Counted(n) => steps_rest(n),
+        Remaining::Counted(n) => steps_remaining(n),
         Remaining::Timed(_) => false,
     }
 }
@@ -45,7 +45,7 @@ pub fn is_time(remaining: Remaining) -> bool
     match remaining {
         Remaining::Nothing => false,
         Remaining::Counted(_) => false,
-        Remaining::Timed(n) => time_rest(n),
+        Remaining::Timed(n) => time_remaining(n),
     }
 }
 
@@ -55,7 +55,7 @@ pub fn is_steps_along(backward: bool, remaining: Remaining) -> bool
 {
     match remaining {
         Remaining::Nothing => false,
-        Remaining::Counted(n) => steps_rest(n) & (n.is_negative() == backward),
+        Remaining::Counted(n) => steps_remaining(n) & (n.is_negative() == backward),
         Remaining::Timed(_) => false,
     }
 }

@@ -3,7 +3,7 @@ ghost use mathlib.Core.Path.{_≡_};
 ghost use mathlib.Core.Bool.{Bool};
 ghost use mathlib.Core.List.{List};
 ghost use Rattle.instruction.specs.declared.Cell.{Cell};
-ghost use Rattle.machine.specs.Soundness.{isWaiting, emergencyRest, restingSound};
+ghost use Rattle.machine.specs.Soundness.{isWaiting, emergencyRemaining, restingSound};
 ghost use Rattle.machine.specs.Soundness.{busySound, runningSound};
 ghost use Rattle.machine.specs.declared.Phase.the-variants.{Run, Braking, Slowing, BackOff};
 ghost use Rattle.machine.specs.declared.Phase.the-variants.{Delay, EmergencySlowing};
@@ -45,19 +45,19 @@ fn resting_sound(running: Running) -> bool
     is_waiting(phase) & is_nothing(remaining) & (running.loops == 0) & !running.at_speed
 }
 
-fn delay_sound(instruction: Instruction, remaining: Remaining, mark: bool) -> bool
-    ensures { λ r. ⌜ r ≡ phaseSound Delay instruction remaining mark ⌝ }
+fn delay_sound(instruction: Instruction, remaining: Remaining, at_speed: bool) -> bool
+    ensures { λ r. ⌜ r ≡ phaseSound Delay instruction remaining «at_speed» ⌝ }
 {
-    is_delay(instruction) & is_time(remaining) & !mark
+    is_delay(instruction) & is_time(remaining) & !at_speed
 }
 
 // Only an indexed run counts its steps, and only a run with a ramp comes to speed.
-fn run_sound(instruction: Instruction, remaining: Remaining, mark: bool) -> bool
-    ensures { λ r. ⌜ r ≡ phaseSound Run instruction remaining mark ⌝ }
+fn run_sound(instruction: Instruction, remaining: Remaining, at_speed: bool) -> bool
+    ensures { λ r. ⌜ r ≡ phaseSound Run instruction remaining «at_speed» ⌝ }
 {
     let profile = instruction.profile();
     let motion = profile.motion;
-    let paced = (profile.ramp != 0) | !mark;
+    let paced = (profile.ramp != 0) | !at_speed;
     match motion {
         Motion::NoRun => false,
         Motion::IndexedRun => is_steps(remaining) & paced,
@@ -68,8 +68,8 @@ fn run_sound(instruction: Instruction, remaining: Remaining, mark: bool) -> bool
 }
 
 // A 05 after its stop has steps to go along its direction.
-fn braking_sound(instruction: Instruction, remaining: Remaining, mark: bool) -> bool
-    ensures { λ r. ⌜ r ≡ phaseSound Braking instruction remaining mark ⌝ }
+fn braking_sound(instruction: Instruction, remaining: Remaining, at_speed: bool) -> bool
+    ensures { λ r. ⌜ r ≡ phaseSound Braking instruction remaining «at_speed» ⌝ }
 {
     let profile = instruction.profile();
     let motion = profile.motion;
@@ -78,13 +78,13 @@ fn braking_sound(instruction: Instruction, remaining: Remaining, mark: bool) -> 
         Motion::IndexedRun => false,
         Motion::FreeRun => false,
         Motion::SearchRun => false,
-        Motion::DelayedStopRun => is_steps_along(profile.backward, remaining) & mark,
+        Motion::DelayedStopRun => is_steps_along(profile.backward, remaining) & at_speed,
     }
 }
 
 // A free run with a ramp slows, and a zero search; the mark may be either.
 fn slowing_sound(instruction: Instruction, remaining: Remaining) -> bool
-    ensures { λ r. ⌜ ((mark : Bool) → r ≡ phaseSound Slowing instruction remaining mark) ⌝ }
+    ensures { λ r. ⌜ ((atSpeed : Bool) → r ≡ phaseSound Slowing instruction remaining atSpeed) ⌝ }
 {
     let profile = instruction.profile();
     let motion = profile.motion;
@@ -98,8 +98,8 @@ fn slowing_sound(instruction: Instruction, remaining: Remaining) -> bool
 }
 
 // What remains in an emergency slowing: the steps of an indexed run, those of a 05 if it brakes.
-fn emergency_rest(profile: Profile, remaining: Remaining) -> bool
-    ensures { λ r. ⌜ r ≡ emergencyRest (profile .motion) profile remaining ⌝ }
+fn emergency_remaining(profile: Profile, remaining: Remaining) -> bool
+    ensures { λ r. ⌜ r ≡ emergencyRemaining (profile .motion) profile remaining ⌝ }
 {
     let motion = profile.motion;
     match motion {
@@ -115,16 +115,16 @@ fn emergency_rest(profile: Profile, remaining: Remaining) -> bool
 
 // Only a run with a ramp slows for an emergency stop; the mark may be either.
 fn emergency_sound(instruction: Instruction, remaining: Remaining) -> bool
-    ensures { λ r. ⌜ ((mark : Bool) →
-        r ≡ phaseSound EmergencySlowing instruction remaining mark) ⌝ }
+    ensures { λ r. ⌜ ((atSpeed : Bool) →
+        r ≡ phaseSound EmergencySlowing instruction remaining atSpeed) ⌝ }
 {
     let profile = instruction.profile();
-    (profile.ramp != 0) & emergency_rest(profile, remaining)
+    (profile.ramp != 0) & emergency_remaining(profile, remaining)
 }
 
 // Only a zero search backs off.
-fn back_off_sound(instruction: Instruction, remaining: Remaining, mark: bool) -> bool
-    ensures { λ r. ⌜ r ≡ phaseSound BackOff instruction remaining mark ⌝ }
+fn back_off_sound(instruction: Instruction, remaining: Remaining, at_speed: bool) -> bool
+    ensures { λ r. ⌜ r ≡ phaseSound BackOff instruction remaining «at_speed» ⌝ }
 {
     let profile = instruction.profile();
     let motion = profile.motion;
@@ -132,7 +132,7 @@ fn back_off_sound(instruction: Instruction, remaining: Remaining, mark: bool) ->
         Motion::NoRun => false,
         Motion::IndexedRun => false,
         Motion::FreeRun => false,
-        Motion::SearchRun => is_nothing(remaining) & !mark,
+        Motion::SearchRun => is_nothing(remaining) & !at_speed,
         Motion::DelayedStopRun => false,
     }
 }
@@ -144,15 +144,15 @@ fn phase_sound(running: Running, instruction: Instruction) -> bool
 {
     let phase = running.phase;
     let remaining = running.remaining;
-    let mark = running.at_speed;
+    let at_speed = running.at_speed;
     match phase {
-        Phase::Waiting => is_nothing(remaining) & !mark,
-        Phase::Delay => delay_sound(instruction, remaining, mark),
-        Phase::Run => run_sound(instruction, remaining, mark),
-        Phase::Braking => braking_sound(instruction, remaining, mark),
+        Phase::Waiting => is_nothing(remaining) & !at_speed,
+        Phase::Delay => delay_sound(instruction, remaining, at_speed),
+        Phase::Run => run_sound(instruction, remaining, at_speed),
+        Phase::Braking => braking_sound(instruction, remaining, at_speed),
         Phase::Slowing => slowing_sound(instruction, remaining),
         Phase::EmergencySlowing => emergency_sound(instruction, remaining),
-        Phase::BackOff => back_off_sound(instruction, remaining, mark),
+        Phase::BackOff => back_off_sound(instruction, remaining, at_speed),
     }
 }
 

@@ -3,13 +3,13 @@ ghost use mathlib.Core.Path.{_≡_};
 ghost use mathlib.Core.List.{List};
 ghost use Rattle.instruction.specs.Runs.{profileOf};
 ghost use Rattle.instruction.specs.declared.Cell.{Cell};
-ghost use Rattle.machine.specs.Soundness.{isIndexed, isDelay, suspendedRest};
+ghost use Rattle.machine.specs.Soundness.{isIndexed, isDelay, suspendedRemaining};
 ghost use Rattle.machine.specs.Soundness.{suspendedSound};
 ghost use Rattle.soundness.specs.Places.{Holds};
 use crate::ranges::is_cell;
 use crate::remaining::is_nothing;
-use crate::remaining::steps_rest;
-use crate::remaining::time_rest;
+use crate::remaining::steps_remaining;
+use crate::remaining::time_remaining;
 use instruction::Instruction;
 use instruction::run::Motion;
 use machine::Remaining;
@@ -36,13 +36,13 @@ pub fn is_delay(instruction: Instruction) -> bool
 }
 
 // What remains in the record: steps of an indexed run, milliseconds of a 65.
-fn suspended_rest(remaining: Remaining, instruction: Instruction) -> bool
-    ensures { λ r. ⌜ r ≡ suspendedRest remaining instruction ⌝ }
+fn suspended_remaining(remaining: Remaining, instruction: Instruction) -> bool
+    ensures { λ r. ⌜ r ≡ suspendedRemaining remaining instruction ⌝ }
 {
     match remaining {
         Remaining::Nothing => true,
-        Remaining::Counted(n) => is_indexed(instruction) & steps_rest(n),
-        Remaining::Timed(n) => is_delay(instruction) & time_rest(n),
+        Remaining::Counted(n) => is_indexed(instruction) & steps_remaining(n),
+        Remaining::Timed(n) => is_delay(instruction) & time_remaining(n),
     }
 }
 
@@ -56,5 +56,5 @@ pub fn suspended_sound(suspended: Suspended, instruction: Instruction) -> bool
     if cell.0 == 0 {
         return is_nothing(remaining) & (suspended.loops == 0);
     }
-    is_cell(cell) & suspended_rest(remaining, instruction)
+    is_cell(cell) & suspended_remaining(remaining, instruction)
 }

@@ -15,7 +15,7 @@ use borrow.Author.Tests.{ltb-false}
 use Rattle.laws.specs.Tests.{choose, either}
 use Rattle.laws.proofs.Tests.{either-left, either-right}
 use Rattle.laws.proofs.Joins.{and-both, both-end}
-use Rattle.units.specs.Limits.{stepLimit, restLimit}
+use Rattle.units.specs.Limits.{stepLimit, remainingLimit}
 use Rattle.units.specs.declared.Steps.{Steps}
 use Rattle.units.specs.declared.position.Position.{Position}
 use Rattle.units.specs.Position.{numberOf}
@@ -50,18 +50,18 @@ sfits-shift n x4 p s f =
 
 -- a shift within the limit fits
 pub sfits-within : {z : ℤ} → Within z → SFits w32 z
-sfits-within {z} w = sfits-natAbs w32 z restLimit (w .within) (lit< tt)
+sfits-within {z} w = sfits-natAbs w32 z remainingLimit (w .within) (lit< tt)
 
 -- the limit times m, and the same back
 within-limit : (x4 : Bool) → Within (scaledOf limit x4)
 within-limit x4 = within-scaled limit x4 (lit≤ tt)
 
 pub sfits-limit : (x4 : Bool) → SFits w64 (scaledOf limit x4)
-sfits-limit x4 = sfits-natAbs w64 (scaledOf limit x4) restLimit (within-limit x4 .within) (lit< tt)
+sfits-limit x4 = sfits-natAbs w64 (scaledOf limit x4) remainingLimit (within-limit x4 .within) (lit< tt)
 
 pub sfits-limit-back : (x4 : Bool) → SFits w64 (negℤ (scaledOf limit x4))
 sfits-limit-back x4 =
-    sfits-natAbs w64 (negℤ (scaledOf limit x4)) restLimit (rw (natAbs-neg (scaledOf limit x4)) (within-limit x4 .within)) (lit< tt)
+    sfits-natAbs w64 (negℤ (scaledOf limit x4)) remainingLimit (rw (natAbs-neg (scaledOf limit x4)) (within-limit x4 .within)) (lit< tt)
 
 below-neg : (n k : ℕ) → ltZ (negsuc n) (negℤ (pos k)) ≡ false → suc n ≤ k
 below-neg n zero t = let e : _≡_ {A = ℕ} 0 1 = cc in absurd (omega arith)
@@ -75,7 +75,7 @@ natAbs-between (negsuc n) k t = below-neg n k (either-right _ _ t)
 -- a shift that is not beyond is within
 pub within-not-beyond : (z : ℤ) (x4 : Bool) → isBeyondOf z x4 ≡ false → Within z
 unfolding isBeyondOf scaledOf multiplierOf choose
-within-not-beyond z true t = record { within = natAbs-between z restLimit t }
+within-not-beyond z true t = record { within = natAbs-between z remainingLimit t }
 within-not-beyond z false t = record { within = omega (arith, natAbs-between z stepLimit t) }
 
 -- neither below −k nor above k

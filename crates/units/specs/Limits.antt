@@ -15,5 +15,5 @@ abbrev pub loopLimit : ℕ
 loopLimit = 65535
 
 -- 01: "a rest is within 33,554,428 either way"
-abbrev pub restLimit : ℕ
-restLimit = 33554428
+abbrev pub remainingLimit : ℕ
+remainingLimit = 33554428

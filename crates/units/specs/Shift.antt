@@ -5,7 +5,7 @@ use mathlib.Core.Bool.{Bool}
 use lib.Signed.{ltZ}
 use lib.IntN.{ℤ, pos, negℤ, natAbs, _-ℤ_, _*ℤ_}
 use Rattle.laws.specs.Tests.{choose, either}
-use Rattle.units.specs.Limits.{stepLimit, restLimit}
+use Rattle.units.specs.Limits.{stepLimit, remainingLimit}
 use Rattle.units.specs.declared.Steps.{Steps}
 use Rattle.units.specs.declared.position.Position.{Position}
 use Rattle.units.specs.Position.{numberOf}
@@ -32,4 +32,4 @@ isBeyondOf shift x4 = either (ltZ (scaledOf limit x4) shift) (ltZ shift (negℤ 
 
 -- 01: "a rest is within 33,554,428 either way"
 pub record Within (z : ℤ) : Type 0 where
-  pub within : natAbs z ≤ restLimit
+  pub within : natAbs z ≤ remainingLimit

@@ -10,7 +10,7 @@ impl Steps {
     pub const LIMIT: i32 = 8_388_607;
 
     // 01: "a rest is within 33,554,428 either way".
-    pub const REST_LIMIT: i32 = 33_554_428;
+    pub const REMAINING_LIMIT: i32 = 33_554_428;
 }
 
 impl Milliseconds {
@@ -18,5 +18,5 @@ impl Milliseconds {
     pub const DELAY_LIMIT: u32 = 65_535;
 
     // The same rest, of a delay.
-    pub const REST_LIMIT: u32 = Steps::REST_LIMIT as u32;
+    pub const REMAINING_LIMIT: u32 = Steps::REMAINING_LIMIT as u32;
 }

@@ -11,7 +11,7 @@ use Rattle.instruction.specs.declared.Cell.{Cell}
 use Rattle.instruction.specs.declared.run.Profile.{Profile}
 use Rattle.machine.specs.Record.{idle, underWay, moving}
 use Rattle.machine.specs.Starting.{inPhase}
-use Rattle.machine.specs.Soundness.{isNothing, busyRest}
+use Rattle.machine.specs.Soundness.{isNothing, busyRemaining}
 use Rattle.machine.specs.Milliseconds.{countDown, millisecondIn, millisecondAt, millisecond}
 use Rattle.machine.specs.declared.Remaining.{Remaining}
 use Rattle.machine.specs.declared.Remaining.the-variants.{Nothing, Counted, Timed}
@@ -26,8 +26,8 @@ abbrev pub delaying : State → ℕ → State
 delaying d k = inPhase d Delay (Timed (record { 0 = k }))
 
 -- 01: "a busy rest is positive in a delay, .. else 0": outside a run only a delay has milliseconds left
-delay-phase : (p : Phase) (q : Profile) (r : Remaining) → underWay p ≡ false → busyRest p q r ≡ true → 0 < delayRemaining r → p ≡ Delay
-unfolding busyRest isNothing
+delay-phase : (p : Phase) (q : Profile) (r : Remaining) → underWay p ≡ false → busyRemaining p q r ≡ true → 0 < delayRemaining r → p ≡ Delay
+unfolding busyRemaining isNothing
 delay-phase Waiting q Nothing t u h = absurd (omega arith)
 delay-phase Waiting q (Counted n) t u h = absurd (omega arith)
 delay-phase Waiting q (Timed n) t u h = cc
@@ -38,10 +38,10 @@ delay-phase Slowing q r t u h = cc
 delay-phase EmergencySlowing q r t u h = cc
 delay-phase BackOff q r t u h = cc
 
-delay-rest : (r : Remaining) → 0 < delayRemaining r → r ≡ Timed (record { 0 = delayRemaining r })
-delay-rest Nothing h = absurd (omega arith)
-delay-rest (Counted n) h = absurd (omega arith)
-delay-rest (Timed n) h = refl
+delay-remaining : (r : Remaining) → 0 < delayRemaining r → r ≡ Timed (record { 0 = delayRemaining r })
+delay-remaining Nothing h = absurd (omega arith)
+delay-remaining (Counted n) h = absurd (omega arith)
+delay-remaining (Timed n) h = refl
 
 -- a sound state that has milliseconds left, neither idle nor moving, is in a delay
 pub in-delay :
@@ -50,8 +50,8 @@ pub in-delay :
 unfolding moving
 in-delay {d = d} g t u h =
     let r = d .running .remaining in
-    ap (λ (p : Phase). inPhase d p r) (delay-phase (d .running .phase) _ r u (running-busy g t .rest) h)
-    ∙ ap (λ (x : Remaining). inPhase d Delay x) (delay-rest r h)
+    ap (λ (p : Phase). inPhase d p r) (delay-phase (d .running .phase) _ r u (running-busy g t .remaining) h)
+    ∙ ap (λ (x : Remaining). inPhase d Delay x) (delay-remaining r h)
 
 -- a millisecond of a delay that is not its last: one less remains
 pub delay-step : (cells : List Cell) (d : State) (k : ℕ) → idle d ≡ false → 1 < k → delaying d (k - 1) ≡ millisecond cells (delaying d k)

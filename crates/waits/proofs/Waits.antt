@@ -5,9 +5,11 @@ use native.Mathlib.Omega.{arith}
 use mathlib.Core.Path.{_≡_, refl, sym, ap, subst, _∙_}
 use mathlib.Core.Bool.{Bool, true, false}
 use mathlib.Core.List.{List}
+use lib.Dec.{eqb}
 use lib.ListN.{length}
+use borrow.Author.Tests.{eqb-true, eqb-false}
 use Rattle.laws.specs.Tests.{either}
-use Rattle.laws.proofs.Tests.{both-left, both-right, choose-true, choose-false}
+use Rattle.laws.proofs.Tests.{both-left, both-right, either-left, either-right}
 use Rattle.instruction.specs.declared.Cell.{Cell}
 use Rattle.machine.specs.Record.{idle, moving}
 use Rattle.machine.specs.Soundness.{sound}
@@ -15,7 +17,6 @@ use Rattle.machine.specs.Milliseconds.{millisecond}
 use Rattle.machine.specs.Waiting.{Waited, noMore, settled, endAt, waitFrom, wait}
 use Rattle.machine.specs.declared.State.{State}
 use Rattle.machine.specs.declared.answers.End.{End}
-use Rattle.machine.specs.declared.answers.End.the-variants as end
 use Rattle.machine.proofs.Cells.{Memory}
 use Rattle.machine.proofs.Parts.{Parts, state-parts}
 use Rattle.machine.proofs.Milliseconds.{millisecond-sound}
@@ -45,27 +46,17 @@ none-from n s q t =
     rw (q, ← t)
     (let z : n ≡ n + 0 = omega arith in ap (λ (g : ℕ). handed (endAt s) g s) z)
 
-settled-wait : (k : ℕ) (b : Bool) (cells : List Cell) (s : State) → b ≡ true → waitFrom k b cells s ≡ noMore s
-unfolding waitFrom
-settled-wait zero b cells s t = refl
-settled-wait (suc k) b cells s t = rw t
+-- a state that is settled, or nothing left of the budget: no more is given
+over-wait : (k : ℕ) (b : Bool) (cells : List Cell) (s : State) → either b (eqb k 0) ≡ true → waitFrom k b cells s ≡ noMore s
+unfolding waitFrom either
+over-wait zero b cells s t = refl
+over-wait (suc k) true cells s t = refl
+over-wait (suc k) false cells s t = absurd (omega (arith, eqb-true (suc k) 0 t))
 
-spent-wait : (k : ℕ) (b : Bool) (cells : List Cell) (s : State) → k ≡ 0 → waitFrom k b cells s ≡ noMore s
-unfolding waitFrom
-spent-wait k b cells s e = rw e
-
-module _ (cells : List Cell) (s : State) (n k : ℕ) where
-  pub ran-idle : idle s ≡ true → handed end.Idle n s ≡ ranFrom n (waitFrom k (settled s) cells s)
-  unfolding settled endAt either
-  ran-idle t = none-from n s (settled-wait k _ cells s (rw t)) (choose-true _ _ _ t)
-
-  pub ran-moving : idle s ≡ false → moving s ≡ true → handed end.Moving n s ≡ ranFrom n (waitFrom k (settled s) cells s)
-  unfolding settled endAt either
-  ran-moving t u = none-from n s (settled-wait k _ cells s (rw (t, u))) (choose-false _ _ _ t ∙ choose-true _ _ _ u)
-
-  pub ran-spent : k ≡ 0 → idle s ≡ false → moving s ≡ false → handed end.Spent n s ≡ ranFrom n (waitFrom k (settled s) cells s)
-  unfolding endAt
-  ran-spent e t u = none-from n s (spent-wait k _ cells s e) (choose-false _ _ _ t ∙ choose-false _ _ _ u)
+pub ran-over :
+    (cells : List Cell) (s : State) (n k : ℕ) → either (settled s) (eqb k 0) ≡ true →
+    handed (endAt s) n s ≡ ranFrom n (waitFrom k (settled s) cells s)
+ran-over cells s n k t = none-from n s (over-wait k _ cells s t) refl
 
 -- one millisecond more
 pub ran-step :
@@ -101,16 +92,37 @@ waiting-start cells limit s f l i o t =
       rest = from-start cells limit s;
     }
 
-pub waiting-step :
-    {cells : List Cell} {limit : ℕ} {s d r : State} {n : ℕ} → Waiting cells limit s d n → n < limit → idle d ≡ false → moving d ≡ false →
-    r ≡ millisecond cells d → Waiting cells limit s r (n + 1)
-waiting-step {cells} {limit} {s} {d} {r} {n} w h t u q =
+-- the same where a millisecond is to come
+pub record Going (cells : List Cell) (limit : ℕ) (s d : State) (n : ℕ) : Type 0 where
+  pub waiting : Waiting cells limit s d n
+  pub busy : idle d ≡ false
+  pub still : moving d ≡ false
+  pub room : n < limit
+
+pub waiting-going :
+    {cells : List Cell} {limit : ℕ} {s d : State} {n : ℕ} → Waiting cells limit s d n → either (settled d) (eqb (limit - n) 0) ≡ false →
+    Going cells limit s d n
+unfolding settled
+waiting-going {limit = limit} {n = n} w t =
+    let u = either-left _ _ t in
+    let z : limit - n ≡ 0 → ⊥ = eqb-false _ _ (either-right _ _ t) in
     record {
-      within = omega arith;
+      waiting = w;
+      busy = either-left _ _ u;
+      still = either-right _ _ u;
+      room = omega (arith, w .within, z);
+    }
+
+pub waiting-step :
+    {cells : List Cell} {limit : ℕ} {s d r : State} {n : ℕ} → Going cells limit s d n → r ≡ millisecond cells d → Waiting cells limit s r (n + 1)
+waiting-step {cells} {limit} {s} {d} {r} {n} g q =
+    let w = g .waiting in
+    record {
+      within = omega (arith, g .room);
       fits = w .fits;
       memory = w .memory;
       parts = rw q (millisecond-sound (w .memory) (w .parts));
-      rest = ran-step cells d r n limit h t u q ∙ w .rest;
+      rest = ran-step cells d r n limit (g .room) (g .busy) (g .still) q ∙ w .rest;
     }
 
 -- so many milliseconds of a delay, none of them its last
@@ -126,13 +138,14 @@ waiting-delay {cells} {n = n} d k t w (suc g) h l =
     let e : k - suc g ≡ k - g - 1 = omega arith in
     let z : n + suc g ≡ n + g + 1 = omega arith in
     rw (e, z)
-    (waiting-step (waiting-delay d k t w g (omega arith) (omega arith)) (omega arith) t refl (delay-step cells d (k - g) t (omega arith)))
+    (let v = waiting-delay d k t w g (omega arith) (omega arith) in
+    waiting-step (record { waiting = v; busy = t; still = refl; room = omega arith }) (delay-step cells d (k - g) t (omega arith)))
 
 -- a sound state with k milliseconds of a delay left, after fewer of them and within the budget
 pub waiting-skip :
-    {cells : List Cell} {limit : ℕ} {s d r : State} {n k g : ℕ} → Waiting cells limit s d n → idle d ≡ false → moving d ≡ false →
-    k ≡ delayRemaining (d .running .remaining) → g < k → n + g ≤ limit → r ≡ delaying d (k - g) → Waiting cells limit s r (n + g)
-waiting-skip {cells} {limit} {s} {d} {r} {n} {k} {g} w t u e h l q =
-    let f = in-delay (w .parts) t u (omega arith) in
-    let v = subst (λ (x : State). Waiting cells limit s x n) (f ∙ ap (delaying d) (sym e)) w in
-    rw q (waiting-delay d k t v g h l)
+    {cells : List Cell} {limit : ℕ} {s d r : State} {n k g : ℕ} → Going cells limit s d n → k ≡ delayRemaining (d .running .remaining) →
+    g < k → n + g ≤ limit → r ≡ delaying d (k - g) → Waiting cells limit s r (n + g)
+waiting-skip {cells} {limit} {s} {d} {r} {n} {k} {g} a e h l q =
+    let f = in-delay (a .waiting .parts) (a .busy) (a .still) (omega arith) in
+    let v = subst (λ (x : State). Waiting cells limit s x n) (f ∙ ap (delaying d) (sym e)) (a .waiting) in
+    rw q (waiting-delay d k (a .busy) v g h l)

@@ -1,2 +1,2 @@
--- Waiting: what a wait hands back, and what remains of a delay.
+-- Waiting: what a wait hands back, what remains of a delay, and which changes a wait leaves to a millisecond by value.
 pub mod Waiting

@@ -1,43 +1,27 @@
--- `console::answer_part` meets its contract: the drive and the string are what `serve` leaves.
+-- `console::answer_part` meets its contract: the drive, the string and the answers are what `serve` leaves, and all of them are handed over.
 -- Assumes nothing.
-use Rattle.console.proofs.Blocks.{serves-continues}
+use mathlib.Core.Path.{refl}
 use borrow.Author.Needs.{needs}
+use Rattle.console.proofs.Parts.{serves-handed}
 use Rattle.console.proofs.answer_part.Statement.{statement}
 use Rattle.console.proofs.answer_part.Tie as tie
-
-large-buffer-requires : tie.Need-large-buffer-requires
-large-buffer-requires c κs = search needs
-
-slice-aggregate-serve : tie.Need-slice-aggregate-serve
-slice-aggregate-serve c = search needs
 
 serve-requires : tie.Need-serve-requires
 serve-requires c κs = search needs
 
-slice-aggregate-front : tie.Need-slice-aggregate-front
-slice-aggregate-front c = search needs
-
-front-requires : tie.Need-front-requires
-front-requires c κs = search needs
-
-write-all-requires : tie.Need-write-all-requires
-write-all-requires c κs = search needs
+hand-over-requires : tie.Need-hand-over-requires
+hand-over-requires c κs = search needs
 
 same-length : tie.Need-same-length
 same-length c = search needs
 
+same-length-2 : tie.Need-same-length-2
+same-length-2 c = search needs
+
 returns : tie.Need-returns
-returns c = serves-continues _ (c .before .before .before .before .before .before .before .serve .ensures)
+returns c =
+    let serve = c .before .before .before .before .before .before .before .serve in
+    (serves-handed (c .hand-over .result .count) (serve .ensures) (c .hand-over .ensures), refl)
 
 pub answer-part-spec : {M : Type 1} → statement M
-answer-part-spec =
-    tie.close
-    (tie.spec
-    large-buffer-requires
-    slice-aggregate-serve
-    serve-requires
-    slice-aggregate-front
-    front-requires
-    write-all-requires
-    same-length
-    returns)
+answer-part-spec = tie.close (tie.spec serve-requires hand-over-requires same-length same-length-2 returns)

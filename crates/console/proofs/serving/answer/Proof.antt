@@ -42,8 +42,8 @@ returns c =
     let t = c .before .before .before .before .before .before .string in
     let size = a .written + 64 - a .written in
     let k : size ≡ 64 = omega arith in
-    answered-so (a .string .now) (a .drive .machine) (a .out .now) (a .written) size (t .last .1 .1 .0) (t .result) (c .before .wait .result) _ _ (p .pre) k (t .kept .1 .1 .0)
-    (t .ensures .0) (t .ensures .1 .1) (c .before .wait .ensures) (c .before .before .before .least .ensures)
+    answered-so (a .string .now) (a .drive .machine) (a .out .now) (a .written) size (t .last .1 .1 .0) (t .result) (c .before .wait .result)
+    _ _ (p .pre) k (t .kept .1 .1 .0) (t .ensures .0) (t .ensures .1 .1) (c .before .wait .ensures) (c .before .before .before .least .ensures)
 
 pub answer-spec : {M : Type 1} → statement M
 answer-spec =

@@ -22,11 +22,7 @@ is-more-requires : tie.Need-is-more-requires
 is-more-requires c κs = search needs
 
 take-cell-requires : tie.Need-take-cell-requires
-take-cell-requires c κs =
-    let b = c .before .before in
-    let a = b .before .before .before in
-    let m = sym (c .before .is-more .ensures) ∙ c .if2 .taken in
-    (a .pre .0, a .pre .1, more-waiting (a .args .state) (a .args .cell) (b .next-change .ensures) m)
+take-cell-requires c κs = search needs
 
 returns-2 : tie.Need-returns-2
 returns-2 c =

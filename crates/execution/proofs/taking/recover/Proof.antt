@@ -1,6 +1,6 @@
 -- `taking::recover` meets its contract: an empty record, and a cell that is resumed.
 -- Assumes nothing.
-use mathlib.Core.Path.{refl, sym, _∙_}
+use mathlib.Core.Path.{sym, _∙_}
 use borrow.Author.Needs.{needs}
 use borrow.Author.Tests.{eq-eqb, ne-eqb}
 use Rattle.laws.proofs.Tests.{choose-true, choose-false}
@@ -19,7 +19,7 @@ restored-requires : tie.Need-restored-requires
 restored-requires c κs = search needs
 
 resume-requires : tie.Need-resume-requires
-resume-requires c κs = (c .before .before .before .before .pre, rw (c .restored .ensures) refl)
+resume-requires c κs = search needs
 
 returns-2 : tie.Need-returns-2
 unfolding recover

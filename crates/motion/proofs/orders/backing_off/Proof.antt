@@ -1,4 +1,4 @@
--- `backing_off` meets its contract: by the lines.
+-- `backing_off` meets its contract: by the signals.
 -- Assumes nothing.
 use borrow.Author.Needs.{needs}
 use Rattle.machine.specs.Orders.{orderIn}

@@ -25,16 +25,16 @@ order-spec =
     (λ c. c .match .keys7)
     (λ c κs. tt)
     (λ c. let a = c .before .before .before .before .args in
-    told (λ (x : Phase). orderIn x (a .state) (a .profile)) (c .enum-told .given .1) (ap Stand (c .before .before .before .lines .ensures)))
+    told (λ (x : Phase). orderIn x (a .state) (a .profile)) (c .enum-told .given .1) (ap Stand (c .before .before .before .signals .ensures)))
     (λ c. let a = c .before .before .before .before .args in
-    told (λ (x : Phase). orderIn x (a .state) (a .profile)) (c .enum-told2 .given .1) (ap Stand (c .before .before .before .lines .ensures)))
+    told (λ (x : Phase). orderIn x (a .state) (a .profile)) (c .enum-told2 .given .1) (ap Stand (c .before .before .before .signals .ensures)))
     (λ c. let a = c .before .before .before .before .before .args in
     told (λ (x : Phase). orderIn x (a .state) (a .profile)) (c .before .enum-told3 .given .1) (c .run-order .ensures))
     (λ c. let a = c .before .before .before .before .before .args in
     told (λ (x : Phase). orderIn x (a .state) (a .profile)) (c .before .enum-told4 .given .1) (c .run-order2 .ensures))
     (λ c. let a = c .before .before .before .before .args in
-    told (λ (x : Phase). orderIn x (a .state) (a .profile)) (c .enum-told5 .given .1) (ap Slow (c .before .before .before .lines .ensures)))
+    told (λ (x : Phase). orderIn x (a .state) (a .profile)) (c .enum-told5 .given .1) (ap Slow (c .before .before .before .signals .ensures)))
     (λ c. let a = c .before .before .before .before .args in
-    told (λ (x : Phase). orderIn x (a .state) (a .profile)) (c .enum-told6 .given .1) (ap Slow (c .before .before .before .lines .ensures)))
+    told (λ (x : Phase). orderIn x (a .state) (a .profile)) (c .enum-told6 .given .1) (ap Slow (c .before .before .before .signals .ensures)))
     (λ c. let a = c .before .before .before .before .before .args in
     told (λ (x : Phase). orderIn x (a .state) (a .profile)) (c .before .enum-told7 .given .1) (c .backing-off .ensures)))

@@ -16,5 +16,5 @@ is-steps-spec =
     (λ c κs. tt)
     (λ c. c .match .keys3)
     (λ c. told isSteps (c .enum-told .given .1) refl)
-    (λ c. told isSteps (c .before .before .remaining .given .1) (c .steps-rest .ensures))
+    (λ c. told isSteps (c .before .before .remaining .given .1) (c .steps-remaining .ensures))
     (λ c. told isSteps (c .enum-told2 .given .1) refl))

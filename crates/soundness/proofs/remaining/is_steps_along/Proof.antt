@@ -19,5 +19,5 @@ is-steps-along-spec =
     (λ c. c .match .keys3)
     (λ c. told (isStepsAlong _) (c .enum-told .given .1) refl)
     (λ c. told (isStepsAlong _) (c .before .before .before .remaining .given .1)
-    (steps-along _ _ (c .before .steps-rest .ensures) (c .is-negative .ensures)))
+    (steps-along _ _ (c .before .steps-remaining .ensures) (c .is-negative .ensures)))
     (λ c. told (isStepsAlong _) (c .enum-told2 .given .1) refl))

@@ -17,4 +17,4 @@ is-time-spec =
     (λ c κs. tt)
     (λ c. told isTime (c .enum-told .given .1) refl)
     (λ c. told isTime (c .enum-told2 .given .1) refl)
-    (λ c. told isTime (c .before .before .remaining .given .1) (c .time-rest .ensures)))
+    (λ c. told isTime (c .before .before .remaining .given .1) (c .time-remaining .ensures)))

@@ -2,13 +2,13 @@
 -- Assumes nothing.
 use mathlib.Core.Path.{refl, _∙_}
 use Rattle.laws.proofs.Joins.{and-as, both-assoc}
-use Rattle.machine.specs.Soundness.{hasPhase, busyRest, markSound}
+use Rattle.machine.specs.Soundness.{hasPhase, busyRemaining, atSpeedSound}
 use Rattle.soundness.specs.Phases.{phaseSound}
 use Rattle.soundness.proofs.running.delay_sound.Statement.{statement}
 use Rattle.soundness.proofs.running.delay_sound.Tie as tie
 
 pub delay-sound-spec : {M : Type 1} → statement M
-unfolding phaseSound hasPhase busyRest markSound
+unfolding phaseSound hasPhase busyRemaining atSpeedSound
 delay-sound-spec =
     tie.close
     (tie.spec

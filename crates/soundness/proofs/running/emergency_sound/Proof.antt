@@ -12,5 +12,5 @@ emergency-sound-spec =
     (tie.spec
     (λ c κs. tt)
     (λ c κs. tt)
-    (λ c mark. emergency-by _ _ mark (c .before .before .profile .ensures)
-    (and-as refl (c .emergency-rest .ensures ∙ sym (both-end _)))))
+    (λ c atSpeed. emergency-by _ _ atSpeed (c .before .before .profile .ensures)
+    (and-as refl (c .emergency-remaining .ensures ∙ sym (both-end _)))))

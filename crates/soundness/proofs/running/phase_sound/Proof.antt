@@ -4,14 +4,14 @@ use mathlib.Core.Path.{refl}
 use Rattle.laws.specs.Tests.{both}
 use Rattle.laws.proofs.Joins.{and-as}
 use Rattle.laws.proofs.Telling.{told}
-use Rattle.machine.specs.Soundness.{hasPhase, busyRest, markSound}
+use Rattle.machine.specs.Soundness.{hasPhase, busyRemaining, atSpeedSound}
 use Rattle.machine.specs.declared.Phase.{Phase}
 use Rattle.soundness.specs.Phases.{phaseSound}
 use Rattle.soundness.proofs.running.phase_sound.Statement.{statement}
 use Rattle.soundness.proofs.running.phase_sound.Tie as tie
 
 pub phase-sound-spec : {M : Type 1} → statement M
-unfolding phaseSound hasPhase busyRest markSound both
+unfolding phaseSound hasPhase busyRemaining atSpeedSound both
 phase-sound-spec =
     tie.close
     (tie.spec

@@ -11,8 +11,8 @@ use Rattle.soundness.proofs.running.slowing_sound.Tie as tie
 returns-3 : tie.Need-returns-3
 unfolding slowingPhase hasRamp
 returns-3 c =
-    λ mark.
-    slowing-by _ _ mark (c .before .before .before .before .profile .ensures) (c .before .before .enum-told3 .given .1)
+    λ atSpeed.
+    slowing-by _ _ atSpeed (c .before .before .before .before .profile .ensures) (c .before .before .enum-told3 .given .1)
     (and-as refl (c .is-nothing .ensures ∙ sym (both-end _)))
 
 pub slowing-sound-spec : {M : Type 1} → statement M
@@ -28,9 +28,9 @@ slowing-sound-spec =
     (λ c. c .match .keys4)
     (λ c κs. tt)
     (λ c. c .match .keys5)
-    (λ c mark. slowing-by _ _ mark (c .before .before .profile .ensures) (c .enum-told .given .1) refl)
-    (λ c mark. slowing-by _ _ mark (c .before .before .profile .ensures) (c .enum-told2 .given .1) refl)
+    (λ c atSpeed. slowing-by _ _ atSpeed (c .before .before .profile .ensures) (c .enum-told .given .1) refl)
+    (λ c atSpeed. slowing-by _ _ atSpeed (c .before .before .profile .ensures) (c .enum-told2 .given .1) refl)
     returns-3
-    (λ c mark. slowing-by _ _ mark (c .before .before .before .profile .ensures) (c .before .enum-told4 .given .1)
+    (λ c atSpeed. slowing-by _ _ atSpeed (c .before .before .before .profile .ensures) (c .before .enum-told4 .given .1)
     (c .is-nothing2 .ensures ∙ sym (both-end _)))
-    (λ c mark. slowing-by _ _ mark (c .before .before .profile .ensures) (c .enum-told5 .given .1) refl))
+    (λ c atSpeed. slowing-by _ _ atSpeed (c .before .before .profile .ensures) (c .enum-told5 .given .1) refl))

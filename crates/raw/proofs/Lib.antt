@@ -1,0 +1,2 @@
+-- Cases: raw writes to a fresh drive, computed.
+mod Cases
