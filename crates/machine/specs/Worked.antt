@@ -1,6 +1,6 @@
 -- The form of a worked case: some calls on a fresh drive of address 00, and what must come next. The cases are in WorkedCases.
 -- Assumes nothing.
-use Prim.Native.Nat.{ℕ}
+use Prim.Native.Nat.{ℕ, _+_, _^_}
 use Prim.Native.String.{String}
 use mathlib.Core.Bool.{Bool, true, false}
 use mathlib.Core.List.{List, [], _∷_, _++_}
@@ -14,6 +14,7 @@ use Rattle.fields.specs.Rows.{printFields}
 use Rattle.fields.specs.declared.kinds.Kind.the-variants.{Count, Sign}
 use Rattle.format.specs.Formats.{bit}
 use Rattle.instruction.specs.Numbers.{bitOf}
+use Rattle.machine.specs.Record.{inPX, inS0, inST, inES, inEE}
 use Rattle.machine.specs.Commands.{anySigned}
 use Rattle.machine.specs.Acting.{sameNumbers}
 use Rattle.machine.specs.Calls.{Call, Ending, proper, look, after, shown}
@@ -83,29 +84,33 @@ unmet (Case s cs e ∷ ws) = choose (both (every proper cs) (comes e (after cs b
 
 -- ---- the bits of an inputs word
 
+-- the word with the input of a place on
+abbrev pub bitAt : ℕ → ℕ
+bitAt k = 2 ^ k
+
 abbrev pub i1 : ℕ
-i1 = 2
+i1 = bitAt 1
 
 abbrev pub px : ℕ
-px = 8
+px = bitAt inPX
 
 abbrev pub s0 : ℕ
-s0 = 16
+s0 = bitAt inS0
 
 abbrev pub s1 : ℕ
-s1 = 32
+s1 = bitAt (inS0 + 1)
 
 abbrev pub s2 : ℕ
-s2 = 64
+s2 = bitAt (inS0 + 2)
 
 abbrev pub s3 : ℕ
-s3 = 128
+s3 = bitAt (inS0 + 3)
 
 abbrev pub st : ℕ
-st = 256
+st = bitAt inST
 
 abbrev pub es : ℕ
-es = 512
+es = bitAt inES
 
 abbrev pub ee : ℕ
-ee = 1024
+ee = bitAt inEE
