@@ -4,6 +4,7 @@
 use crate::board::Order;
 use crate::instruction::Cell;
 use crate::memory::Drive;
+use crate::replay::weighted_sum;
 use std::hint::black_box;
 
 /// The codes, and the order in which the memory holds them.
@@ -41,9 +42,9 @@ const PROGRAMS: [(usize, &str); 7] = [
     (120, "01,10,20,+8388607,x4,220"),
 ];
 
-const NAMES: [&str; 12] = [
+const NAMES: [&str; 13] = [
     "wn", "qm", "qa", "inputs", "delay", "cell", "step", "refused", "halted", "order", "wait",
-    "long",
+    "long", "cells",
 ];
 
 /// The sum that a benchmark writes, or all of them one after the other. `None` where there is no such benchmark.
@@ -62,6 +63,7 @@ pub fn bench(name: &str, count: u32) -> Option<u32> {
         "order" => orders(started(moving), count),
         "wait" => waits(started(looping), count),
         "long" => waits(started(delaying), count),
+        "cells" => cells(started(idle)),
         "all" => NAMES.iter().try_fold(0, |sum, name| Some(added(sum, bench(name, count)?)))?,
         _ => return None,
     })
@@ -94,6 +96,16 @@ fn strings(mut drive: Drive, first: &str, count: u32) -> u32 {
         black_box(&mut drive);
     }
     sum
+}
+
+/// Every byte that the cells show: the sum then says which memory the calls are made on.
+fn cells(mut drive: Drive) -> u32 {
+    (100..231).fold(0, |sum, cell| {
+        let mut buffer = [0; 64];
+        let told = drive.string(format!("00QM,{cell}\r").as_bytes(), &mut buffer);
+        let length = told.ok().flatten().unwrap_or_default();
+        added(sum, weighted_sum(&buffer[..length]) as u32)
+    })
 }
 
 type Done = Result<(), u8>;

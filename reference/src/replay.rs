@@ -176,7 +176,7 @@ fn shown(bytes: &[u8]) -> String {
 }
 
 /// The sum of (i + 1) × b[i], modulo 1000003.
-fn weighted_sum(bytes: &[u8]) -> u64 {
+pub fn weighted_sum(bytes: &[u8]) -> u64 {
     (1..).zip(bytes).fold(0, |sum, (weight, &byte)| (sum + weight * u64::from(byte)) % 1_000_003)
 }
 

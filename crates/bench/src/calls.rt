@@ -1,4 +1,5 @@
-// The loops that are timed. The drive that a call hands back goes into the next one.
+// The loops of calls, which are timed, but for the one over the cells. The drive that a timed call
+// hands back goes into the next one.
 use crate::sums::added;
 use crate::sums::answer_seen;
 use crate::sums::order_seen;
@@ -6,6 +7,8 @@ use crate::sums::seen;
 use crate::sums::wait_seen;
 use drive::Drive;
 use drive::results::Done;
+use lines::gathering::front;
+use observed::sums::Sum;
 use units::Milliseconds;
 
 pub enum Event {
@@ -15,10 +18,14 @@ pub enum Event {
     Halted,
 }
 
+fn digit(number: u32) -> u8 {
+    b'0' + (number % 10) as u8
+}
+
 // The eighth byte of a string counts: a WN or a QM goes over ten cells.
 fn set_digit(text: &mut [u8], k: u32) {
     if 7 < text.len() {
-        text[7] = b'0' + (k % 10) as u8;
+        text[7] = digit(k);
     }
 }
 
@@ -31,6 +38,43 @@ pub fn strings(text: &mut [u8], buffer: &mut [u8], drive: Drive, count: u32) -> 
         let told = d.string(text, buffer);
         d = told.drive;
         sum = added(sum, answer_seen(told.length, buffer));
+        k += 1;
+    }
+    sum
+}
+
+// A QM of a cell.
+fn request(address: u32) -> [u8; 9] {
+    let hundreds = digit(address / 100);
+    let tens = digit(address / 10);
+    [
+        b'0',
+        b'0',
+        b'Q',
+        b'M',
+        b',',
+        hundreds,
+        tens,
+        digit(address),
+        b'\r',
+    ]
+}
+
+// Every byte that a cell shows.
+fn cell_seen(drive: Drive, address: u32) -> u32 {
+    let text = request(address);
+    let mut buffer = [0u8; 64];
+    let told = drive.string(&text, &mut buffer);
+    let shown = Sum::new().with_all(front(&buffer, told.length));
+    shown.sum
+}
+
+// Each cell once: the sum then says which memory the calls are made on.
+pub fn cells(drive: Drive) -> u32 {
+    let mut sum: u32 = 0;
+    let mut k: u32 = 0;
+    while k < 131 {
+        sum = added(sum, cell_seen(drive, Drive::FIRST as u32 + k));
         k += 1;
     }
     sum

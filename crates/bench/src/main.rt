@@ -66,7 +66,7 @@ fn events(name: &[u8], count: u32) -> u32 {
     others(name, count)
 }
 
-// Calls that change nothing, and waits.
+// Calls that change nothing, and waits. The cells are read, and not timed.
 fn others(name: &[u8], count: u32) -> u32 {
     if check::same(name, b"refused") {
         return calls::events(Event::Step, idle(), count);
@@ -82,6 +82,9 @@ fn others(name: &[u8], count: u32) -> u32 {
     }
     if check::same(name, b"long") {
         return calls::waits(delaying(), count);
+    }
+    if check::same(name, b"cells") {
+        return calls::cells(idle());
     }
     0
 }
@@ -99,7 +102,8 @@ fn all(count: u32) -> u32 {
     sum = added(sum, others(b"halted", count));
     sum = added(sum, others(b"order", count));
     sum = added(sum, others(b"wait", count));
-    added(sum, others(b"long", count))
+    sum = added(sum, others(b"long", count));
+    added(sum, others(b"cells", count))
 }
 
 fn named(name: &[u8], count: u32) -> u32 {
