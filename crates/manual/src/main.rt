@@ -70,13 +70,16 @@ fn is_acted_on(score: Score, letter: u8, number: Number) -> bool {
     }
 }
 
-// A line that is not acted on: it looks at an answer, or is wrong.
+// A line that is not acted on: it looks at an answer, once, or is wrong.
 fn look(score: Score, letter: u8, text: &[u8], seen: &mut [u8]) -> Score {
-    if letter == b'<' {
+    if score.pending & (letter == b'<') {
         return compare(score, text, front(seen, score.length));
     }
     if score.pending {
         return failing(score, gather(seen, 0, b"an answer that is not looked at"));
+    }
+    if letter == b'<' {
+        return failing(score, gather(seen, 0, b"no answer to look at"));
     }
     failing(score, gather(seen, 0, b"a line that is not understood"))
 }
