@@ -24,7 +24,7 @@ use Rattle.instruction.specs.declared.Instruction.the-variants.{ConditionalJump
 use Rattle.machine.specs.Record.{idle, origin, outCU, stopped, withCam, withLoopCount, withOutput, withPosition, withRunning}
 use Rattle.machine.specs.Starting.{advanced, failed}
 use Rattle.machine.specs.Soundness.{runPhase}
-use Rattle.machine.specs.Taking.{conditionAt, takeClosingLoop, takeConditionalJump, takeTimeDelay, takeRun, take, isRecovery, takeCell}
+use Rattle.machine.specs.Taking.{levelAt, conditionAt, takeClosingLoop, takeConditionalJump, takeTimeDelay, takeRun, take, isRecovery, takeCell}
 use Rattle.machine.specs.Milliseconds.{countDown, millisecondIn, millisecondAt}
 use Rattle.machine.specs.declared.Phase.{Phase}
 use Rattle.machine.specs.declared.Phase.the-variants.{Waiting, Delay, Run, Braking, Slowing, EmergencySlowing, BackOff}
@@ -34,7 +34,7 @@ use Rattle.machine.specs.declared.Running.{Running}
 use Rattle.machine.specs.declared.State.{State}
 use Rattle.progress.specs.Passing.{passedTo}
 use Rattle.progress.proofs.Passing.{passing}
-use Rattle.changes.specs.Changes.{isMore, delayOf, runningAfter, partSet, changedBy, placeIn, closingLoop, timeDelay, levelAt, changeOf, takenChange}
+use Rattle.changes.specs.Changes.{isMore, delayOf, runningAfter, partSet, changedBy, placeIn, closingLoop, timeDelay, changeOf, takenChange}
 use Rattle.changes.specs.Changes.{delayChange, changeIn, changeAt, nextChange}
 use Rattle.changes.specs.declared.Change.{Change}
 use Rattle.changes.specs.declared.Change.the-variants as change
@@ -89,7 +89,7 @@ delay-plain n k next = choose-by (λ (x : Change). isMore x ≡ false) _ (λ t. 
 take-changed :
     (s : State) (i : Instruction) (next : CellAddress) → isMore (takenChange s i next) ≡ false →
     changedBy (takenChange s i next) s ≡ take s i next
-unfolding changeOf take takeConditionalJump conditionAt levelAt
+unfolding changeOf take takeConditionalJump levelAt
 take-changed s Null next h = passing s next
 take-changed s (IndexedRamp f r x n) next h = cc
 take-changed s (IndexedRampFine f r x n) next h = cc

@@ -1,11 +1,10 @@
 -- What taking a cell and a millisecond change of a state, and what a change makes of it. The laws in proofs/Changing say that a state so
 -- changed is the one that `take` and `millisecondAt` of `machine` give.
 -- Assumes nothing.
-use Prim.Native.Nat.{ℕ, _+_, _-_}
+use Prim.Native.Nat.{ℕ, _-_}
 use mathlib.Core.Bool.{Bool, true, false}
 use mathlib.Core.List.{List}
-use lib.Dec.{eqb, leb, ltb}
-use lib.ListN.{getD}
+use lib.Dec.{eqb, leb}
 use Rattle.laws.specs.Tests.{choose, same}
 use Rattle.units.specs.declared.CellAddress.{CellAddress}
 use Rattle.units.specs.declared.Milliseconds.{Milliseconds}
@@ -15,7 +14,8 @@ use Rattle.instruction.specs.declared.Instruction.the-variants.{Null, IndexedRa
 use Rattle.instruction.specs.declared.Instruction.the-variants.{Indexed, IndexedFine, Free, FreeFine, ZeroSearch, DelayedStop}
 use Rattle.instruction.specs.declared.Instruction.the-variants.{CamSetting, OutputSetting, CounterReset, OpeningLoop, ClosingLoop}
 use Rattle.instruction.specs.declared.Instruction.the-variants.{ConditionalJump, TimeDelay, Recovery, CurrentSetting}
-use Rattle.machine.specs.Record.{atRest, origin, withCam, withFault, withOutput, withPosition, withRunning, outF0, outCU}
+use Rattle.machine.specs.Record.{atRest, origin, withCam, withFault, withOutput, withPosition, withRunning, outCU}
+use Rattle.machine.specs.Taking.{levelAt}
 use Rattle.machine.specs.declared.Phase.{Phase}
 use Rattle.machine.specs.declared.Phase.the-variants.{Waiting, Delay, Run, Braking, Slowing, EmergencySlowing, BackOff}
 use Rattle.machine.specs.declared.Remaining.{Remaining}
@@ -88,10 +88,6 @@ closingLoop n jump next =
 -- 01: "65: a delay of nnn later milliseconds; 0 passes on"
 unfoldable pub timeDelay : Milliseconds → ℕ → CellAddress → Change
 timeDelay d n next = choose (eqb (d .0) 0) (change.Advance next n) (change.Delay false d)
-
--- the level of what a 63 names: I0 to I2, PX, S0 to S3, then F0 to F7
-unfoldable pub levelAt : List Bool → List Bool → ℕ → Bool
-levelAt ins outs k = choose (ltb k 8) (getD ins k false) (getD outs (outF0 + (k - 8)) false)
 
 -- 01: "00, 57, 58, 60 (position 0), 70 (CU), 61 (loop count = nnn) act and pass to DDD"; "63: EEE if II equals V, else DDD".
 -- A run that begins and a 69, which goes on at another cell, change more.

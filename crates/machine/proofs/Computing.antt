@@ -81,7 +81,7 @@ heard = tt
 -- a program: starting, each code, a millisecond, a wait
 unfoldable pub programs : Unit {0}
 unfolding machine-Milliseconds.present machine-Milliseconds.countDown machine-Milliseconds.millisecondIn machine-Milliseconds.millisecond
-    machine-Starting.advanced machine-Taking.takeClosingLoop machine-Taking.conditionAt machine-Taking.takeConditionalJump
+    machine-Starting.advanced machine-Taking.takeClosingLoop machine-Taking.levelAt machine-Taking.takeConditionalJump
     machine-Taking.takeTimeDelay machine-Taking.lacksX4 machine-Taking.beginIndexed machine-Taking.shiftFor machine-Taking.takeIndexed
     machine-Taking.takeFree machine-Taking.takeSearch machine-Taking.takeMotion machine-Taking.takeRun machine-Taking.take machine-Taking.resume
     machine-Taking.recover machine-Taking.isRecovery machine-Taking.takeCell machine-Waiting.settled machine-Waiting.endAt machine-Waiting.waitFrom

@@ -21,7 +21,7 @@ use Rattle.instruction.specs.declared.Instruction.the-variants.{Null, IndexedRa
 use Rattle.instruction.specs.declared.run.Motion.{Motion}
 use Rattle.instruction.specs.declared.run.Motion.the-variants.{NoRun, IndexedRun, FreeRun, SearchRun, DelayedStopRun}
 use Rattle.instruction.specs.declared.run.Profile.{Profile}
-use Rattle.machine.specs.Record.{cellAt, origin, nothingSuspended, withPosition, withCam, withSuspended, withRunning, withLoopCount, withOutput, inputAt, outputAt, inPX, inES, outF0, outCU, stopped, isAbsolute}
+use Rattle.machine.specs.Record.{cellAt, origin, nothingSuspended, withPosition, withCam, withSuspended, withRunning, withLoopCount, withOutput, inputAt, inPX, inES, outF0, outCU, stopped, isAbsolute}
 use Rattle.machine.specs.Starting.{waitingAt, advanced, failed, entered}
 use Rattle.machine.specs.declared.Resolution.{Resolution}
 use Rattle.machine.specs.declared.Resolution.the-variants.{D0, D1, D2, D3, B0, B1, B2, B3}
@@ -38,9 +38,12 @@ takeClosingLoop s jump next =
     (advanced (withRunning s (withLoopCount (s .running) (s .running .loops - 1)))
     (choose (eqb (s .running .loops) 1) next jump))
 
--- the level of what a 63 names: I0 to I2, PX, S0 to S3, then F0 to F7
-unfoldable pub conditionAt : State → ℕ → Bool
-conditionAt s k = choose (ltb k 8) (inputAt s k) (outputAt s (outF0 + (k - 8)))
+-- the level of what a 63 names, given the inputs and the outputs: I0 to I2, PX, S0 to S3, then F0 to F7
+unfoldable pub levelAt : List Bool → List Bool → ℕ → Bool
+levelAt ins outs k = choose (ltb k 8) (getD ins k false) (getD outs (outF0 + (k - 8)) false)
+
+abbrev pub conditionAt : State → ℕ → Bool
+conditionAt s k = levelAt (s .inputs) (s .outputs) k
 
 -- 01: "63: EEE if II equals V, else DDD"
 unfoldable pub takeConditionalJump : State → ConditionName → Bool → CellAddress → CellAddress → State

@@ -4,7 +4,7 @@ use mathlib.Core.Path.{sym}
 use borrow.Author.Needs.{needs}
 use borrow.Author.Tests.{lt-ltb, le-ltb}
 use Rattle.laws.proofs.Tests.{choose-true, choose-false}
-use Rattle.changes.specs.Changes.{levelAt}
+use Rattle.machine.specs.Taking.{levelAt}
 use Rattle.changes.proofs.condition_at.Statement.{statement}
 use Rattle.changes.proofs.condition_at.Tie as tie
 
