@@ -22,7 +22,7 @@ use fields::names::Names;
 // How many outputs the record has; the list of names goes on with two that it has not.
 const OUTPUTS: u32 = 14;
 
-// The place of the first cell, and how many there are.
+// The addresses of the first and the last cell.
 const FIRST: u32 = 100;
 
 const LAST: u32 = 230;
