@@ -42,9 +42,9 @@ const PROGRAMS: [(usize, &str); 7] = [
     (120, "01,10,20,+8388607,x4,220"),
 ];
 
-const NAMES: [&str; 13] = [
+const NAMES: [&str; 15] = [
     "wn", "qm", "qa", "inputs", "delay", "cell", "step", "refused", "halted", "order", "wait",
-    "long", "cells",
+    "long", "cells", "save", "load",
 ];
 
 /// The sum that a benchmark writes, or all of them one after the other. `None` where there is no such benchmark.
@@ -64,6 +64,8 @@ pub fn bench(name: &str, count: u32) -> Option<u32> {
         "wait" => waits(started(looping), count),
         "long" => waits(started(delaying), count),
         "cells" => cells(started(idle)),
+        "save" => saves(started(idle), count),
+        "load" => loads(started(idle), count),
         "all" => NAMES.iter().try_fold(0, |sum, name| Some(added(sum, bench(name, count)?)))?,
         _ => return None,
     })
@@ -149,6 +151,35 @@ fn waits(mut drive: Drive, count: u32) -> u32 {
         sum = added(sum, waited.map_or(0, |(_, given)| given));
         sum = added(sum, seen(waited.err(), &drive));
         black_box(&mut drive);
+    }
+    sum
+}
+
+/// Images, each with another IN than the one before it.
+fn saves(mut drive: Drive, count: u32) -> u32 {
+    let mut buffer = [0; 2048];
+    let mut sum = 0;
+    for k in 0..count {
+        drive.presets.current = (k % 4) as u8;
+        let length = drive.image(&mut buffer).unwrap_or_default() as u32;
+        sum = added(sum, length * 256 + u32::from(buffer[1]));
+        black_box(&mut drive);
+    }
+    sum
+}
+
+/// One image, in which IN counts. Seen of a drive are IN and the next of cell 100.
+fn loads(drive: Drive, count: u32) -> u32 {
+    let mut buffer = [0; 2048];
+    let length = drive.image(&mut buffer).unwrap_or_default();
+    let mut sum = 0;
+    for k in 0..count {
+        buffer[1] = (k % 4) as u8;
+        let loaded = Drive::load(&buffer[..length]);
+        let seen =
+            |loaded: &Drive| u32::from(loaded.presets.current) + u32::from(loaded.cells[0].next);
+        sum = added(sum, loaded.as_ref().map_or(0, seen));
+        let _ = black_box(loaded);
     }
     sum
 }

@@ -9,6 +9,8 @@
 mod cells;
 mod events;
 mod fields;
+mod images;
+pub mod layout;
 mod random;
 mod raw;
 mod strings;
@@ -42,7 +44,7 @@ struct Generator {
 /// One kind of call, or a short run of calls that belong together.
 type Kind = fn(&mut Generator);
 
-const WHILE_IDLE: [(usize, Kind); 27] = [
+const WHILE_IDLE: [(usize, Kind); 29] = [
     (30, Generator::program),
     (9, Generator::looped_program),
     (6, Generator::jump_program),
@@ -70,9 +72,11 @@ const WHILE_IDLE: [(usize, Kind); 27] = [
     (4, Generator::reading),
     (5, Generator::raw_write),
     (1, Generator::fresh),
+    (12, Generator::save),
+    (14, Generator::load),
 ];
 
-const WHILE_WAITING: [(usize, Kind); 13] = [
+const WHILE_WAITING: [(usize, Kind); 15] = [
     (50, Generator::milliseconds),
     (16, Generator::wait),
     (9, Generator::stop_string),
@@ -86,9 +90,11 @@ const WHILE_WAITING: [(usize, Kind); 13] = [
     (1, Generator::rounding),
     (1, Generator::reading),
     (3, Generator::raw_write),
+    (2, Generator::save),
+    (1, Generator::load_mostly_damaged),
 ];
 
-const WHILE_MOVING: [(usize, Kind); 13] = [
+const WHILE_MOVING: [(usize, Kind); 15] = [
     (60, Generator::right_report),
     (7, Generator::any_report),
     (16, Generator::stop_string),
@@ -102,10 +108,12 @@ const WHILE_MOVING: [(usize, Kind); 13] = [
     (2, Generator::board_order),
     (1, Generator::reading),
     (6, Generator::raw_write),
+    (2, Generator::save),
+    (1, Generator::load_mostly_damaged),
 ];
 
 /// Every operation once on a record that is unsound, and soon the way back.
-const WHILE_UNSOUND: [(usize, Kind); 12] = [
+const WHILE_UNSOUND: [(usize, Kind); 14] = [
     (14, Generator::mend),
     (2, Generator::fresh),
     (3, Generator::any_string),
@@ -118,6 +126,8 @@ const WHILE_UNSOUND: [(usize, Kind); 12] = [
     (1, Generator::rounding),
     (1, Generator::reading),
     (1, Generator::raw_write),
+    (2, Generator::save),
+    (1, Generator::load_mostly_damaged),
 ];
 
 impl Generator {

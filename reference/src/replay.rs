@@ -67,7 +67,7 @@ fn call(drive: &mut Drive, words: &[&str]) -> Result<Seen, String> {
     Ok(match words {
         ["F", address] => Seen::of(Drive::fresh(unsigned(address)?).map(|fresh| *drive = fresh)),
         ["S", string, size, fill] => {
-            call_string(drive, &bytes(string)?, at_most(size, 256)?, at_most(fill, 255)?)
+            call_string(drive, &bytes(string, 256)?, at_most(size, 256)?, at_most(fill, 255)?)
         }
         ["I", word] => Seen::of(drive.inputs(unsigned(word)?)),
         ["M"] => Seen::of(drive.millisecond()),
@@ -83,7 +83,9 @@ fn call(drive: &mut Drive, words: &[&str]) -> Result<Seen, String> {
             reading(drive).map(|answers| format!("{}:{}", answers.len(), weighted_sum(&answers))),
         ),
         ["K", field @ ..] => call_raw(drive, raw::write(drive, field)?),
-        ["F" | "S" | "I" | "M" | "P" | "A" | "H" | "W" | "B" | "R" | "Q", ..] => {
+        ["O", size, fill] => call_image(drive, at_most(size, 2048)?, at_most(fill, 255)?),
+        ["L", image] => Seen::of(Drive::load(&bytes(image, 2048)?).map(|loaded| *drive = loaded)),
+        ["F" | "S" | "I" | "M" | "P" | "A" | "H" | "W" | "B" | "R" | "Q" | "O" | "L", ..] => {
             return Err(format!("{}: missing or extra word", words[0]));
         }
         _ => return Err(format!("not a call: {:?}", words.join(" "))),
@@ -94,6 +96,13 @@ fn call_string(drive: &mut Drive, string: &[u8], size: u32, fill: u32) -> Seen {
     let mut buffer = vec![fill as u8; size as usize];
     let result = drive.string(string, &mut buffer);
     let answer = result.ok().flatten().map(|length| shown(&buffer[..length]));
+    Seen { refusal: result.err(), answer, buffer: Some(weighted_sum(&buffer)), wait: None }
+}
+
+fn call_image(drive: &Drive, size: u32, fill: u32) -> Seen {
+    let mut buffer = vec![fill as u8; size as usize];
+    let result = drive.image(&mut buffer);
+    let answer = result.ok().map(|length| length.to_string());
     Seen { refusal: result.err(), answer, buffer: Some(weighted_sum(&buffer)), wait: None }
 }
 
@@ -187,13 +196,13 @@ fn at_most(word: &str, most: u32) -> Result<u32, String> {
     }
 }
 
-/// Bytes in lower-case hex, `-` for none, at most 256.
-fn bytes(word: &str) -> Result<Vec<u8>, String> {
+/// Bytes in lower-case hex, `-` for none, at most so many.
+fn bytes(word: &str, most: usize) -> Result<Vec<u8>, String> {
     if word == "-" {
         return Ok(Vec::new());
     }
-    let wrong = || format!("not 1 to 256 bytes in lower-case hex: {word:?}");
-    if word.is_empty() || word.len() % 2 == 1 || word.len() > 512 {
+    let wrong = || format!("not 1 to {most} bytes in lower-case hex: {word:?}");
+    if word.is_empty() || word.len() % 2 == 1 || word.len() > 2 * most {
         return Err(wrong());
     }
     let pairs = word.as_bytes().chunks(2);

@@ -3,6 +3,8 @@
 
 #[path = "common/coverage.rs"]
 mod coverage;
+#[path = "common/images.rs"]
+mod images;
 #[path = "common/scripts.rs"]
 mod scripts;
 
@@ -52,4 +54,14 @@ fn every_instruction_and_preset_is_accepted_and_rejected() {
 #[test]
 fn every_rare_happening_occurs() {
     coverage::happenings(&corpus(), 1);
+}
+
+#[test]
+fn images_are_written_and_read_in_every_state_and_refused() {
+    coverage::images(&corpus(), 1);
+}
+
+#[test]
+fn every_field_of_an_image_is_at_its_ends_and_beyond_them() {
+    coverage::image_fields(&corpus(), 1);
 }

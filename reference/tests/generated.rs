@@ -5,6 +5,10 @@
 mod alike;
 #[path = "common/coverage.rs"]
 mod coverage;
+#[path = "common/images.rs"]
+mod images;
+#[path = "generated/kept.rs"]
+mod kept;
 #[path = "common/rebuild.rs"]
 mod rebuild;
 #[path = "common/scripts.rs"]
@@ -71,6 +75,16 @@ fn every_rare_happening_occurs() {
 }
 
 #[test]
+fn images_are_written_and_read_in_every_state_and_refused() {
+    coverage::images(generated(), 20);
+}
+
+#[test]
+fn every_field_of_an_image_is_at_its_ends_and_beyond_them() {
+    coverage::image_fields(generated(), 3);
+}
+
+#[test]
 fn a_seed_gives_one_script_that_begins_with_an_accepted_f() {
     for seed in (0..SCRIPTS).step_by(50) {
         let made = script(seed, CALLS);
@@ -108,8 +122,10 @@ fn every_accepted_call_keeps_a_sound_drive_sound() {
 fn a_refusal_changes_neither_drive_nor_buffer() {
     walk(generated(), |moment| {
         let sound = moment.before.sound();
-        let needs_a_sound_drive =
-            !matches!(moment.call, Call::Fresh(_) | Call::Rounding(_) | Call::Raw(_));
+        let needs_a_sound_drive = !matches!(
+            moment.call,
+            Call::Fresh(_) | Call::Rounding(_) | Call::Raw(_) | Call::Load(_)
+        );
         if needs_a_sound_drive {
             assert_eq!(moment.seen.refusal == Some(2), !sound, "{:?}", moment.call);
         }

@@ -1,4 +1,4 @@
-//! Scripts of calls: the example of the format, K lines, and malformed lines.
+//! Scripts of calls: the examples of the format, K lines, and malformed lines.
 
 use reference::replay::replay;
 use std::io::Write;
@@ -76,6 +76,25 @@ fn every_call_has_its_observations() {
         format!("- - - moving 0 {}", run(-6)),
         format!("- - - - - {}", run(-6)),
         format!("- 0:0 - - - {}", run(-6)),
+    ];
+    assert_eq!(seen(&calls), expected);
+}
+
+#[test]
+fn images_have_their_observations() {
+    let store = s("00WN,100,11,05,-1,x4,000");
+    let loaded = format!("050300000145{}", "0000".repeat(127));
+    let calls = format!("{store}; O 266 0; O 264 0; O 263 1; L -; K out O1 1; L {loaded}; O 260 0");
+    let stand = "stand:1,0,0 00000000000000";
+    let expected = [
+        format!("- 00Y\\x0d 463 - - {stand}"),
+        format!("- 264 126 - - {stand}"),
+        format!("- 264 126 - - {stand}"),
+        format!("9 - 34716 - - {stand}"),
+        format!("10 - - - - {stand}"),
+        "- sound - - - stand:1,0,0 01000000000000".to_string(),
+        "- - - - - stand:3,0,0 00000000000000".to_string(),
+        "- 260 430 - - stand:3,0,0 00000000000000".to_string(),
     ];
     assert_eq!(seen(&calls), expected);
 }
@@ -555,6 +574,18 @@ B 0 => missing or extra word
 R => missing or extra word
 R 1.5 => not a number
 Q 1 => missing or extra word
+O => missing or extra word
+O 64 => missing or extra word
+O 64 0 0 => missing or extra word
+O x 0 => not a number
+O 64 -1 => not a number
+O 2049 0 => above 2048
+O 64 256 => above 255
+L => missing or extra word
+L 00 00 => missing or extra word
+L 0 => hex
+L 0A => hex
+L  => hex
 K => missing name
 K foo 1 => unknown name
 K AD 1 => unknown name
@@ -585,6 +616,9 @@ fn malformed_line_is_named_by_its_number() {
         assert!(complaint.contains(part), "{line:?}: {complaint}");
     }
     let long = format!("F 0\nS {} 64 0\n", "30".repeat(257));
+    assert!(replay(&long).unwrap_err().starts_with("line 2: "));
+    assert!(replay(&long.replacen("30", "", 1)).is_ok());
+    let long = format!("F 0\nL {}\n", "30".repeat(2049));
     assert!(replay(&long).unwrap_err().starts_with("line 2: "));
     assert!(replay(&long.replacen("30", "", 1)).is_ok());
     assert!(replay("F 0\r\n").unwrap_err().starts_with("line 1: "));

@@ -2,11 +2,16 @@
 // hands back goes into the next one.
 use crate::sums::added;
 use crate::sums::answer_seen;
+use crate::sums::image_seen;
+use crate::sums::length_of;
+use crate::sums::loaded_seen;
 use crate::sums::order_seen;
 use crate::sums::seen;
 use crate::sums::wait_seen;
 use drive::Drive;
 use drive::results::Done;
+use image::reading::read;
+use image::writing::write;
 use lines::gathering::front;
 use observed::sums::Sum;
 use units::Milliseconds;
@@ -131,6 +136,36 @@ pub fn waits(drive: Drive, count: u32) -> u32 {
         let refusal = waited.refusal;
         let state = d.machine.state;
         sum = added(added(sum, wait_seen(ending)), seen(refusal, state));
+        k += 1;
+    }
+    sum
+}
+
+// IN counts, so that no image is the one before it.
+pub fn saves(drive: Drive, count: u32) -> u32 {
+    let mut d = drive;
+    let mut buffer = [0u8; 2048];
+    let mut sum: u32 = 0;
+    let mut k: u32 = 0;
+    while k < count {
+        let current = (k % 4) as u8;
+        d.machine.state.presets.current = current;
+        let written = write(d, &mut buffer);
+        sum = added(sum, image_seen(written, &buffer));
+        k += 1;
+    }
+    sum
+}
+
+// IN counts in the image, so that no drive is the one before it.
+pub fn loads(drive: Drive, count: u32) -> u32 {
+    let mut buffer = [0u8; 2048];
+    let length = length_of(write(drive, &mut buffer));
+    let mut sum: u32 = 0;
+    let mut k: u32 = 0;
+    while k < count {
+        buffer[1] = (k % 4) as u8;
+        sum = added(sum, loaded_seen(read(front(&buffer, length))));
         k += 1;
     }
     sum

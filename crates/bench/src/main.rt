@@ -86,6 +86,16 @@ fn others(name: &[u8], count: u32) -> u32 {
     if check::same(name, b"cells") {
         return calls::cells(idle());
     }
+    images(name, count)
+}
+
+fn images(name: &[u8], count: u32) -> u32 {
+    if check::same(name, b"save") {
+        return calls::saves(idle(), count);
+    }
+    if check::same(name, b"load") {
+        return calls::loads(idle(), count);
+    }
     0
 }
 
@@ -103,7 +113,9 @@ fn all(count: u32) -> u32 {
     sum = added(sum, others(b"order", count));
     sum = added(sum, others(b"wait", count));
     sum = added(sum, others(b"long", count));
-    added(sum, others(b"cells", count))
+    sum = added(sum, others(b"cells", count));
+    sum = added(sum, images(b"save", count));
+    added(sum, images(b"load", count))
 }
 
 fn named(name: &[u8], count: u32) -> u32 {

@@ -2,6 +2,8 @@
 use drive::results::Ending;
 use drive::results::Ordered;
 use drive::results::Refusal;
+use image::results::Loaded;
+use image::results::Written;
 use machine::Remaining;
 use machine::State;
 use machine::answers::BoardOrder;
@@ -74,4 +76,28 @@ pub fn wait_seen(ending: Ending) -> u32 {
         Ending::NoWait => 0,
         Ending::Ended { given, .. } => given.0,
     }
+}
+
+pub fn length_of(written: Written) -> usize {
+    match written {
+        Written::Image { length } => length,
+        Written::Refused(_) => 0,
+    }
+}
+
+// An image's length and its IN.
+pub fn image_seen(written: Written, buffer: &[u8; 2048]) -> u32 {
+    let n = (length_of(written) % 65536) as u32 * 256;
+    wrapping_add_u32(n, wide(buffer[1]))
+}
+
+// Of a loaded drive IN, and the cell after the first.
+pub fn loaded_seen(loaded: Loaded) -> u32 {
+    let refusal = loaded.refusal;
+    if refusal.number() != 0 {
+        return 0;
+    }
+    let machine = loaded.drive.machine;
+    let first = machine.cells[0];
+    wrapping_add_u32(wide(machine.state.presets.current), wide(first.next.0))
 }

@@ -13,7 +13,9 @@ use Rattle.laws.proofs.Tests.{both-left, both-right, both-true, either-true-rig
 use Rattle.fields.specs.Names.{listOf}
 use Rattle.fields.specs.Kinds.{goodSigned, good, validSigned, valid}
 use Rattle.fields.specs.declared.names.Names.{Names}
-use Rattle.fields.specs.declared.kinds.Kind.the-variants.{Fixed, Next, Count, Name}
+use Rattle.fields.specs.declared.kinds.Kind.{Kind}
+use Rattle.fields.specs.declared.kinds.Kind.the-variants.{Fixed, Next, Count, Signed, Optional, Sign, Multiplier, Name}
+use Rattle.fields.proofs.Turns.{length-listOf}
 
 pub good-fixed : (w low high : ℕ) → good (Fixed w low high) ≡ true → (1 ≤ w) × ((w ≤ 10) × ((high < 10 ^ w) × (high < 2 ^ 32)))
 unfolding good
@@ -78,3 +80,15 @@ signed-below below above v h g l = both-true (lt-ltb v (2 ^ 32) h) (choose-false
 pub valid-name : (names : Names) (v : ℕ) → valid (Name names) v ≡ true → v < length (listOf names)
 unfolding valid
 valid-name names v t = ltb-true v _ t
+
+-- a value of a good kind has 32 bits
+pub valid-small : (k : Kind) (v : ℕ) → good k ≡ true → valid k v ≡ true → v < 2 ^ 32
+unfolding good valid
+valid-small (Fixed w low high) v g t = omega (arith, good-fixed w low high g .1 .1 .1, valid-between low high v t .1)
+valid-small Next v g t = ⊎-elim (λ e. omega arith) (λ r. omega arith) (valid-next v t)
+valid-small (Count low high) v g t = omega (arith, good-count low high g, valid-between low high v t .1)
+valid-small (Signed below above) v g t = valid-signed below above v t .0
+valid-small (Optional below above) v g t = valid-signed below above v t .0
+valid-small Sign v g t = omega (arith, ltb-true v 2 t)
+valid-small Multiplier v g t = omega (arith, ltb-true v 2 t)
+valid-small (Name names) v g t = omega (arith, valid-name names v t, length-listOf names)

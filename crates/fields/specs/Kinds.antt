@@ -3,7 +3,7 @@
 use Prim.Native.Nat.{ℕ, _+_, _-_, _/_, _%_, _^_, _≤_}
 use mathlib.Core.Path.{_≡_}
 use mathlib.Core.List.{List, [], _∷_}
-use mathlib.Core.Bool.{Bool, true}
+use mathlib.Core.Bool.{Bool, true, false}
 use lib.ListN.{length, getD}
 use lib.Dec.{ltb, leb, eqb}
 use Rattle.laws.specs.Tests.{choose, both, either}
@@ -103,6 +103,17 @@ most (Optional below above) = 11
 most Sign = 1
 most Multiplier = 2
 most (Name names) = 2
+
+-- the kinds whose values have a sign
+unfoldable pub isSigned : Kind → Bool
+isSigned (Fixed w low high) = false
+isSigned Next = false
+isSigned (Count low high) = false
+isSigned (Signed below above) = true
+isSigned (Optional below above) = true
+isSigned Sign = false
+isSigned Multiplier = false
+isSigned (Name names) = false
 
 -- what printing a field into a buffer asks: a good kind, a value that it admits, and room from the place on
 pub record Printable (k : Kind) (v at : ℕ) (buf : List ℕ) : Type 0 where

@@ -1,12 +1,13 @@
 -- The fields of each code, as 01, "Instructions", lists them, with DDD last.
 -- Assumes nothing.
-use Prim.Native.Nat.{ℕ}
+use Prim.Native.Nat.{ℕ, suc}
 use mathlib.Core.Bool.{Bool, true, false}
 use mathlib.Core.List.{List, [], _∷_}
 use lib.Dec.{eqb}
 use lib.ListN.{length, getD}
 use Rattle.laws.specs.Tests.{choose, either}
 use Rattle.units.specs.Limits.{stepLimit, delayLimit, loopLimit}
+use Rattle.fields.specs.Kinds.{isSigned}
 use Rattle.fields.specs.declared.kinds.Kind.{Kind}
 use Rattle.fields.specs.declared.kinds.Kind.the-variants.{Fixed, Next, Count, Signed, Sign, Multiplier, Name}
 use Rattle.fields.specs.declared.rows.Row.{Row}
@@ -106,6 +107,20 @@ knownIn (e ∷ es) code = either (eqb code (e .code)) (knownIn es code)
 -- whether there is such a code
 unfoldable pub known : ℕ → Bool
 known code = knownIn formats code
+
+-- ---- the outline of a row, by which the code of an image goes
+
+-- how many fields a code has; 7 where there is no such code
+unfoldable pub fieldCount : ℕ → ℕ
+fieldCount code = choose (known code) (length (fieldsOf code)) 7
+
+-- the place of the first field with a sign, counted from i; 6 where there is none
+unfoldable pub signedFrom : ℕ → List Kind → ℕ
+signedFrom i [] = 6
+signedFrom i (k ∷ ks) = choose (isSigned k) i (signedFrom (suc i) ks)
+
+unfoldable pub signedPlace : List Kind → ℕ
+signedPlace ks = signedFrom 0 ks
 
 -- a row as the code holds it: the first n of six kinds
 abbrev pub sixKinds : ℕ → Kind → Kind → Kind → Kind → Kind → Kind → Row

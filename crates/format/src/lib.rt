@@ -2,7 +2,7 @@
 ghost use mathlib.Core.Path.{_≡_};
 ghost use mathlib.Core.Bool.{true};
 ghost use mathlib.Core.List.{[], _∷_};
-ghost use Rattle.format.specs.Formats.{formatWith, formatOf};
+ghost use Rattle.format.specs.Formats.{formatWith, formatOf, fieldsOf, fieldCount, signedPlace};
 use fields::kinds::Kind;
 use fields::names::Names;
 use fields::rows::Row;
@@ -195,5 +195,49 @@ fn no_fields(known: bool) -> Format
             k4: Kind::Next,
             k5: Kind::Next,
         },
+    }
+}
+
+// How many fields a code has; 7 where there is no such code. Of a row it says no more, so that a
+// whole memory is written and read without building its rows.
+pub fn field_count(code: u32) -> usize
+    ensures { λ r. ⌜ r ≡ fieldCount code ⌝ }
+{
+    match code {
+        1 => 5,
+        31 => 5,
+        2 => 5,
+        32 => 5,
+        11 => 4,
+        21 => 4,
+        12 => 4,
+        22 => 4,
+        3 => 5,
+        5 => 6,
+        57 => 3,
+        58 => 3,
+        60 => 1,
+        61 => 2,
+        62 => 2,
+        63 => 4,
+        65 => 2,
+        70 => 2,
+        0 => 1,
+        69 => 0,
+        _ => 7,
+    }
+}
+
+// The place of the field with a sign; 6 where a code has none.
+pub fn signed_place(code: u32) -> usize
+    ensures { λ r. ⌜ r ≡ signedPlace (fieldsOf code) ⌝ }
+{
+    match code {
+        1 => 2,
+        31 => 2,
+        11 => 1,
+        21 => 1,
+        57 => 1,
+        _ => 6,
     }
 }

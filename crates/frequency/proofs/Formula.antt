@@ -26,7 +26,7 @@ divisor-most f h =
     let q : 96000 / (f + 1) < 96000 = div-lt-self {n = 96000} {k = f + 1} (lit≤ tt) (omega arith) in
     omega arith
 
-round-below : (f : ℕ) → roundOf f ≤ f
+pub round-below : (f : ℕ) → roundOf f ≤ f
 unfolding roundOf
 round-below f =
     let b : 96000 < (f + 1) * (96000 / (f + 1) + 1) = lt-mul-div-succ 96000 {b = f + 1} (omega arith) in

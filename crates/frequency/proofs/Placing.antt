@@ -2,13 +2,14 @@
 -- Assumes nothing.
 use Prim.Native.Nat.{ℕ, zero, suc, _+_, _-_, _/_, _≤_, _<_}
 use native.Mathlib.Nat.{not-suc-le-zero, le-trans, lt-of-lt-of-le}
+use native.Mathlib.Nat.{le-div-iff-mul-le, div-lt-iff-lt-mul, mul-div-le}
 use native.Mathlib.Decide.{ℕ-discrete, decLt}
 use native.Mathlib.Numerals.{sub-one}
 use native.Mathlib.Omega.{arith}
 use mathlib.Core.Path.{_≡_, refl, ap, sym, _∙_}
 use mathlib.Core.Bool.{true}
 use mathlib.Core.List.{List, [], _∷_}
-use lib.Dec.{eqb, ltb}
+use lib.Dec.{eqb, ltb, lit<}
 use lib.ListN.{length, getD, List·getD-eq-default}
 use borrow.Author.Tests.{eqb-true, lt-ltb, le-ltb, le-leb, lt-leb}
 use Rattle.laws.specs.Tests.{choose, both}
@@ -18,7 +19,7 @@ use Rattle.frequency.specs.declared.Frequency.{Frequency}
 use Rattle.frequency.specs.Table.{following, rising, frequencies}
 use Rattle.frequency.specs.Places.{hertzOf, notAbove, placeOf}
 use Rattle.frequency.specs.Rounding.{roundOf}
-use Rattle.frequency.proofs.Formula.{round-between}
+use Rattle.frequency.proofs.Formula.{round-below, round-between}
 use Rattle.frequency.proofs.Entries.{entry-at, table-length, table-next, table-rule, table-stands}
 
 -- ---- a frequency from its place
@@ -108,7 +109,7 @@ place-below v l h =
     let s = table-stands v l h in
     rw (place-at (s .place) v (s .within) (s .from) (s .upto)) (s .within)
 
--- ---- the search
+-- ---- a place by arithmetic
 
 -- the place between the entries that are not above a value and those that are; of 0 the first place
 pub place-search : (k v : ℕ) → k < 599 → (0 < k → getD frequencies k 0 ≤ v) → (k + 1 < 599 → v < getD frequencies (k + 1) 0) → placeOf v ≡ record { 0 = k }
@@ -132,3 +133,33 @@ place-search k v h p q = by (decLt v (getD frequencies k 0))
         first : (k : ℕ) → (0 < k → getD frequencies k 0 ≤ v) → v < getD frequencies k 0 → k ≡ 0
         first zero p l = refl
         first (suc k) p l = absurd (omega (arith, p (omega arith)))
+
+pub place-first : (v : ℕ) → v < 2 → placeOf v ≡ record { 0 = 0 }
+unfolding hertzOf
+place-first v l = place-search 0 v (lit< tt) (λ n. absurd (omega arith)) (λ n. omega (arith, hertz-low (record { 0 = 1 }) (lit< tt)))
+
+-- the first frequencies are 1, 2 and so on
+pub place-low : (v : ℕ) → 0 < v → v < 310 → placeOf v ≡ record { 0 = v - 1 }
+unfolding hertzOf
+place-low v l h =
+    let k = v - 1 in
+    let e : getD frequencies k 0 ≡ k + 1 = hertz-low (record { 0 = k }) (omega arith) in
+    place-at k v (omega arith) (omega arith) (omega (arith, entry-at k (omega arith) .less))
+
+-- from 310 on the divisor is one more than the whole part of 96,000 / (v + 1)
+pub place-high : (v : ℕ) → 310 ≤ v → v < 4800 → (96000 / (v + 1) ≤ 308) × (placeOf v ≡ record { 0 = 617 - 96000 / (v + 1) })
+unfolding hertzOf roundOf
+place-high v l h =
+    let q = 96000 / (v + 1) in
+    let k = 617 - q in
+    let a : 20 ≤ q = le-div-iff-mul-le {k = v + 1} {x = 20} {y = 96000} (omega arith) .1 (omega arith) in
+    let b : q < 309 = div-lt-iff-lt-mul {k = v + 1} {x = 96000} {y = 309} (omega arith) .1 (omega arith) in
+    let i : 618 - k ≡ q + 1 = omega arith in
+    let j : 618 - (k + 1) ≡ q = omega arith in
+    let e : getD frequencies k 0 ≡ 96000 / (618 - k) = hertz-high (record { 0 = k }) (omega arith) (omega arith) in
+    let f : getD frequencies (k + 1) 0 ≡ 96000 / (618 - (k + 1)) = hertz-high (record { 0 = k + 1 }) (omega arith) (omega arith) in
+    let m : v + 1 ≤ 96000 / q = le-div-iff-mul-le {k = q} {x = v + 1} {y = 96000} (omega arith) .1 (mul-div-le 96000 (v + 1)) in
+    (omega arith, place-search k v (omega arith) (λ n. rw (e, i) (round-below v)) (λ n. rw (f, j) (omega arith)))
+
+pub place-last : (v : ℕ) → 4800 ≤ v → placeOf v ≡ record { 0 = 598 }
+place-last v l = place-search 598 v (lit< tt) (λ n. omega (arith, entry-at 598 (lit< tt) .high)) (λ n. absurd (omega arith))

@@ -29,23 +29,21 @@ impl Frequency {
     }
 }
 
-// The place of the greatest frequency not above a value; of 0 the first.
+// The place of the greatest frequency not above a value; of 0 the first. It is computed as `hertz`
+// computes the frequency at a place, since a search of the table takes ten reads.
 pub fn place(value: u32) -> Frequency
     ensures { λ r. ⌜ r ≡ placeOf value ⌝ }
 {
-    let table = FREQUENCIES;
-    let mut low: u16 = 0;
-    let mut high = Frequency::COUNT;
-    while low + 1 < high {
-        let mid = (low + high) / 2;
-        let entry = table[mid as usize];
-        if entry as u32 <= value {
-            low = mid;
-        } else {
-            high = mid;
-        }
+    if value < 2 {
+        return Frequency(0);
     }
-    Frequency(low)
+    if value < 310 {
+        return Frequency((value - 1) as u16);
+    }
+    if 4799 < value {
+        return Frequency(598);
+    }
+    Frequency((617 - 96_000 / (value + 1)) as u16)
 }
 
 // What a value is stored as, or the number of the refusal.
@@ -67,6 +65,7 @@ pub fn round(value: u32) -> Rounded
     if value > 4800 {
         return Rounded::Refused(REFUSAL);
     }
+    let table = FREQUENCIES;
     let frequency = place(value);
-    Rounded::Value(frequency.hertz())
+    Rounded::Value(table[frequency.0 as usize])
 }

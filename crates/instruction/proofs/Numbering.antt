@@ -1,21 +1,25 @@
--- A cell from its numbers: its code and its numbers say all of it.
+-- A cell from its numbers: its code and its numbers say all of it. Lists of numbers, compared one by one.
 -- Assumes nothing.
-use Prim.Native.Nat.{ℕ}
+use Prim.Native.Nat.{ℕ, _+_, _≤_, _<_}
+use native.Mathlib.Numerals.{add-one}
 use mathlib.Core.Path.{_≡_, refl, ap, sym, _∙_}
-use mathlib.Core.Bool.{Bool, true, false}
+use mathlib.Core.Bool.{Bool, true, false, _&&_}
+use mathlib.Core.List.{List, [], _∷_}
 use lib.Dec.{eqb}
-use lib.ListN.{length, take, replicate}
-use lib.Seq.{sets, length-sets}
-use borrow.Author.Tests.{eqb-true}
-use Rattle.laws.specs.Tests.{choose, either}
-use Rattle.laws.proofs.Tests.{both-left, both-right}
+use lib.ListN.{length, getD, take, drop, replicate, drop-of-length-le}
+use lib.Seq.{sets, length-sets, drop-cons}
+use borrow.Author.Tests.{eqb-true, eq-eqb}
+use Rattle.laws.specs.Tests.{choose, both, either}
+use Rattle.laws.proofs.Tests.{both-left, both-right, both-true}
+use Rattle.laws.proofs.Joins.{and-both, both-end, both-assoc}
+use Rattle.laws.proofs.Telling.{Apart, unequal-apart}
 use Rattle.units.specs.declared.CellAddress.{CellAddress}
 use Rattle.units.specs.declared.position.Position.{Position}
 use Rattle.fields.specs.Names.{listed, listOf}
 use Rattle.fields.specs.Rows.{allValid}
 use Rattle.instruction.specs.Codes.{codeOf}
 use Rattle.format.specs.Formats.{fieldsIn, fieldsOf, knownIn, known}
-use Rattle.instruction.specs.Numbers.{numbersWith, numbersOf, camOf, cellWith, cellOf, byteOf}
+use Rattle.instruction.specs.Numbers.{numbersWith, numbersOf, camOf, withNext, cellWith, cellOf, byteOf, sameNumbers}
 use Rattle.instruction.specs.Soundness.{canonical, cellSound}
 use Rattle.instruction.specs.declared.Instruction.{Instruction}
 use Rattle.instruction.specs.declared.Instruction.the-variants.{Null, IndexedRamp, IndexedRampFine, FreeRamp, FreeRampFine, Indexed, IndexedFine, Free, FreeFine, ZeroSearch, DelayedStop, CamSetting, OutputSetting, CounterReset, OpeningLoop, ClosingLoop, ConditionalJump, TimeDelay, Recovery, CurrentSetting}
@@ -99,3 +103,45 @@ cell-numbers c s =
 pub same-cell : (c d : Cell) → cellSound c ≡ true → cellSound d ≡ true → codeOf (c .instruction) ≡ codeOf (d .instruction) →
     numbersOf c ≡ numbersOf d → c ≡ d
 same-cell c d s t e f = sym (cell-numbers c s) ∙ ap (λ (n : ℕ). cellOf n (numbersOf c)) e ∙ ap (cellOf (codeOf (d .instruction))) f ∙ cell-numbers d t
+
+-- ---- a code that is none of the others
+
+-- the codes that are told apart
+abbrev pub others : List ℕ
+others = 1 ∷ 31 ∷ 2 ∷ 32 ∷ 11 ∷ 21 ∷ 12 ∷ 22 ∷ 3 ∷ 5 ∷ 57 ∷ 58 ∷ 60 ∷ 61 ∷ 62 ∷ 63 ∷ 65 ∷ 70 ∷ 69 ∷ []
+
+pub other-cell : (code : ℕ) (v : List ℕ) → Apart (Unit {0}) code others → withNext Null (getD v 0 0) ≡ cellOf code v
+unfolding cellOf cellWith choose
+other-cell code v n = let f = unequal-apart (Unit {0}) code others n .1 in cc
+
+-- ---- lists of numbers, compared
+
+pub same-numbers : (l : List ℕ) → sameNumbers l l ≡ true
+unfolding sameNumbers
+same-numbers [] = refl
+same-numbers (x ∷ l) = both-true (eq-eqb x x refl) (same-numbers l)
+
+pub numbers-same : (k l : List ℕ) → sameNumbers k l ≡ true → k ≡ l
+unfolding sameNumbers
+numbers-same [] [] t = refl
+numbers-same [] (y ∷ l) t = cc
+numbers-same (x ∷ k) [] t = cc
+numbers-same (x ∷ k) (y ∷ l) t =
+    let e : x ≡ y = eqb-true x y (both-left _ _ t) in
+    let m = numbers-same k l (both-right _ _ t) in
+    cc
+
+module _ (same : Bool) (xs ys : List ℕ) (i : ℕ) where
+  -- what is found so far, joined to what is left, stays the same when one more is compared
+  pub same-turn : i < length xs → i < length ys →
+      both (same && eqb (getD xs i 0) (getD ys i 0)) (sameNumbers (drop (i + 1) xs) (drop (i + 1) ys))
+      ≡ both same (sameNumbers (drop i xs) (drop i ys))
+  unfolding sameNumbers
+  same-turn h g =
+      rw (add-one i, drop-cons xs i 0, drop-cons ys i 0, and-both)
+      (both-assoc same (eqb (getD xs i 0) (getD ys i 0)) _)
+
+  -- all are compared
+  pub same-end : length xs ≤ i → length ys ≤ i → both same (sameNumbers (drop i xs) (drop i ys)) ≡ same
+  unfolding sameNumbers
+  same-end h g = rw (drop-of-length-le xs h, drop-of-length-le ys g) (both-end same)

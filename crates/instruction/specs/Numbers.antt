@@ -6,7 +6,7 @@ use mathlib.Core.Bool.{Bool, true, false}
 use mathlib.Core.List.{List, [], _∷_}
 use lib.ListN.{getD}
 use lib.Dec.{eqb}
-use Rattle.laws.specs.Tests.{choose}
+use Rattle.laws.specs.Tests.{choose, both}
 use Rattle.units.specs.Bits.{stepsOf, bitsOf}
 use Rattle.units.specs.declared.CellAddress.{CellAddress}
 use Rattle.frequency.specs.Places.{hertzOf, placeOf}
@@ -116,3 +116,10 @@ cellWith code a b c d e f =
 -- the cell of a code and its six numbers
 unfoldable pub cellOf : ℕ → List ℕ → Cell
 cellOf code vs = cellWith code (getD vs 0 0) (getD vs 1 0) (getD vs 2 0) (getD vs 3 0) (getD vs 4 0) (getD vs 5 0)
+
+-- two lists with the same numbers
+unfoldable pub sameNumbers : List ℕ → List ℕ → Bool
+sameNumbers [] [] = true
+sameNumbers [] (y ∷ ys) = false
+sameNumbers (x ∷ xs) [] = false
+sameNumbers (x ∷ xs) (y ∷ ys) = both (eqb x y) (sameNumbers xs ys)

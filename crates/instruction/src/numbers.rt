@@ -1,11 +1,12 @@
 // A cell as the numbers of its QM answer, and back.
 ghost use mathlib.Core.Path.{_≡_};
+ghost use lib.Dec.{eqb};
 ghost use Rattle.units.specs.Bits.{stepsOf, bitsOf};
-ghost use Rattle.frequency.specs.Places.{placeOf};
+ghost use Rattle.frequency.specs.Places.{hertzOf, placeOf};
 ghost use Rattle.instruction.specs.declared.Instruction.the-variants.{ConditionalJump};
 ghost use Rattle.instruction.specs.Numbers.{bitOf, isOne, travelBackward, travelX4, travelOf};
 ghost use Rattle.instruction.specs.Numbers.{six, numbersWith, numbersOf, byteOf, wordOf};
-ghost use Rattle.instruction.specs.Numbers.{addressOf, withNext, camOf, cellOf};
+ghost use Rattle.instruction.specs.Numbers.{addressOf, withNext, camOf, cellOf, sameNumbers};
 use crate::Cell;
 use crate::ConditionName;
 use crate::Instruction;
@@ -376,8 +377,8 @@ fn conditional_jump(i: u32, v: u32, e: u32) -> Instruction
 }
 
 // The cell of a code and its numbers.
-pub fn cell_of(code: u32, v: [u32; 6]) -> Cell
-    ensures { λ r. ⌜ r ≡ cellOf code v ⌝ }
+pub fn cell_of(code: u32, v: &[u32; 6]) -> Cell
+    ensures { λ r. ⌜ r ≡ cellOf code (now (v .entry)) ⌝ }
 {
     let a = v[0];
     let b = v[1];
@@ -412,4 +413,67 @@ pub fn cell_of(code: u32, v: [u32; 6]) -> Cell
         69 => with_next(Instruction::Recovery, 0),
         _ => with_next(Instruction::Null, a),
     }
+}
+
+// Whether a number is one of the step frequencies.
+fn in_table(v: u32) -> bool
+    ensures { λ r. ⌜ r ≡ eqb (hertzOf (placeOf v)) v ⌝ }
+{
+    frequency::place(v).hertz() as u32 == v
+}
+
+// Whether the cell of a code and its numbers holds all of them, none cut: then they are its own
+// numbers. It is told from the numbers, since making the cell first costs more.
+pub fn holds_numbers(code: u32, v: &[u32; 6]) -> bool
+    ensures { λ r. ⌜ r ≡ sameNumbers (numbersOf (cellOf code (now (v .entry)))) (now (v .entry)) ⌝ }
+{
+    // A slice is known to have as many numbers as the array, each one of 32 bits.
+    let w: &[u32] = v;
+    let a = w[0];
+    let b = w[1];
+    let c = w[2];
+    let d = w[3];
+    let e = w[4];
+    let f = w[5];
+    // Past a row's last number there are only zeros.
+    let no_f = f == 0;
+    let no_e = (e == 0) & no_f;
+    let no_d = (d == 0) & no_e;
+    let no_c = (c == 0) & no_d;
+    let no_b = (b == 0) & no_c;
+    match code {
+        1 => (a < 256) & (b < 256) & (d < 2) & (e < 256) & no_f,
+        31 => (a < 256) & (b < 256) & (d < 2) & (e < 256) & no_f,
+        2 => (a < 256) & (b < 256) & (c < 2) & (d < 2) & (e < 256) & no_f,
+        32 => (a < 256) & (b < 256) & (c < 2) & (d < 2) & (e < 256) & no_f,
+        11 => (a < 256) & (c < 2) & (d < 256) & no_e,
+        21 => in_table(a) & (c < 2) & (d < 256) & no_e,
+        12 => (a < 256) & (b < 2) & (c < 2) & (d < 256) & no_e,
+        22 => in_table(a) & (b < 2) & (c < 2) & (d < 256) & no_e,
+        3 => (a < 256) & (b < 256) & (c < 2) & (d < 256) & (e < 256) & no_f,
+        5 => (a < 256) & (b < 256) & (c < 2) & (e < 2) & (f < 256),
+        57 => (a < 2) & ((a == 1) | (b == 0)) & (c < 256) & no_d,
+        58 => (a < 256) & (b < 2) & (c < 256) & no_d,
+        60 => (a < 256) & no_b,
+        61 => (a < 65536) & (b < 256) & no_c,
+        62 => (a < 256) & (b < 256) & no_c,
+        63 => (a < 256) & (b < 2) & (c < 256) & (d < 256) & no_e,
+        65 => (b < 256) & no_c,
+        70 => (a < 2) & (b < 256) & no_c,
+        69 => (a == 0) & no_b,
+        _ => (a < 256) & no_b,
+    }
+}
+
+// Whether the numbers of two cells are the same. All six are compared, with no branch.
+pub fn same_numbers(xs: [u32; 6], ys: [u32; 6]) -> bool
+    ensures { λ r. ⌜ r ≡ sameNumbers xs ys ⌝ }
+{
+    let mut same = true;
+    let mut i: usize = 0;
+    while i < 6 {
+        same = same & (xs[i] == ys[i]);
+        i += 1;
+    }
+    same
 }

@@ -48,7 +48,7 @@ pub fn read_cell(s: &[u8], from: usize) -> Sent
         return Sent::Wrong;
     }
     let values = rest.values;
-    Sent::Held(numbers::cell_of(code, values))
+    Sent::Held(numbers::cell_of(code, &values))
 }
 
 // The text of a cell, from a place on.

@@ -71,7 +71,7 @@ unfolding machine-Answers.presetValue machine-Answers.presetText machine-Answers
     machine-Record.cellAt machine-Record.storedAt machine-Record.fresh machine-Record.idle machine-Record.moving machine-Strings.carriedOut
     machine-Strings.ended machine-Strings.bodyOf machine-Strings.isDigit machine-Strings.addressed machine-Strings.isStop machine-Strings.free
     machine-Strings.toEvery machine-Strings.permitted machine-Strings.judged machine-Strings.unanswered machine-Strings.told
-    machine-Answers.answerAt machine-Acting.sameNumbers machine-Acting.sameContent machine-Acting.keepsSuspended machine-Acting.storedState
+    machine-Answers.answerAt instruction-Numbers.sameNumbers machine-Acting.sameContent machine-Acting.keepsSuspended machine-Acting.storedState
     machine-Acting.presetSet machine-Acting.named machine-Acting.actedAt machine-Acting.cellsAfter machine-Acting.namedCell
     machine-Acting.machineAfter machine-Commands.isCode machine-Commands.resolutionAt machine-Commands.presetWith machine-Commands.commandBy
     machine-Strings.headerOf machine-Strings.admitted machine-Strings.isStart machine-Strings.allowed machine-Strings.toldIn

@@ -15,13 +15,13 @@ use Rattle.laws.specs.Tables.{every}
 use Rattle.laws.specs.Text.{bytes}
 use Rattle.laws.proofs.Tests.{choose-true, choose-false, choose-map}
 use Rattle.decimal.specs.Printing.{decimal}
+use Rattle.instruction.specs.Numbers.{sameNumbers}
 use Rattle.instruction.specs.declared.Cell.{Cell}
 use Rattle.machine.specs.Record.{idle, moving}
 use Rattle.machine.specs.Soundness.{sound}
 use Rattle.machine.specs.Starting.{inPhase}
 use Rattle.machine.specs.Milliseconds.{countDown, millisecondIn, millisecondAt, millisecond}
 use Rattle.machine.specs.Waiting.{settled, endAt, Waited, waitFrom, wait}
-use Rattle.machine.specs.Acting.{sameNumbers}
 use Rattle.machine.specs.Calls.{Outcome, refused, waited, proper, act, apply, look, after}
 use Rattle.machine.specs.Calls.Call.{Wait}
 use Rattle.machine.specs.Cases.{bench}

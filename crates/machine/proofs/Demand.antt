@@ -20,7 +20,8 @@ use Rattle.machine.specs.Reading.{Request, requests, requestText, ask, r
 use Rattle.machine.specs.Reading.Request.{Position}
 use Rattle.machine.specs.Demand3.{Begun, Reached, Alike, Demand3}
 use Rattle.machine.specs.declared.Machine.{Machine}
-use Rattle.machine.proofs.Invariant.{Good, good-fresh, good-after}
+use Rattle.machine.proofs.Images.{loaded-restores}
+use Rattle.machine.proofs.Invariant.{Good, good-fresh, restored-good, good-after}
 use Rattle.machine.proofs.Members.{every-member, every-map, every-append}
 use Rattle.machine.proofs.Addressing.{own, string, tens, ones, addressedTo, digits-front, told-other}
 use Rattle.machine.proofs.Requests.{sendable, requests-sendable, position-asked}
@@ -30,6 +31,7 @@ use Rattle.machine.proofs.WritingBack.{all-back}
 
 begun-good : (m : Machine) → Begun m → Good m
 begun-good m (Begun.made address small) = good-fresh address small
+begun-good n (Begun.loaded image m e) = restored-good image m (loaded-restores image m e)
 
 reached-good : (m : Machine) → Reached m → Good m
 reached-good m r = subst Good (r .made) (good-after (r .calls) _ (begun-good (r .start) (r .begun)))

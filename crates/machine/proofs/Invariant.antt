@@ -1,12 +1,12 @@
 -- The invariant: whatever calls a drive gets, a fresh one stays sound.
 -- Assumes nothing.
-use Prim.Native.Nat.{ℕ, _≤_}
-use mathlib.Core.Path.{_≡_, refl, ap}
+use Prim.Native.Nat.{ℕ, _+_, _≤_}
+use mathlib.Core.Path.{_≡_, refl, ap, _∙_, subst}
 use mathlib.Core.Bool.{true}
 use mathlib.Core.List.{List, [], _∷_}
 use mathlib.Core.Logic.{_≢_}
 use lib.Dec.{ltb}
-use lib.ListN.{length}
+use lib.ListN.{length, replicate, length-append}
 use borrow.Author.Tests.{le-leb, eqb-true, not-true}
 use Rattle.laws.specs.Tests.{choose, both, either}
 use Rattle.laws.specs.Tables.{every}
@@ -17,11 +17,12 @@ use Rattle.instruction.specs.Codes.{codeOf}
 use Rattle.format.specs.Formats.{fieldsOf, fieldsIn}
 use Rattle.instruction.specs.Numbers.{numbersWith}
 use Rattle.instruction.specs.Soundness.{canonical, cellSound}
-use Rattle.machine.specs.Record.{fresh, idle, moving, atRest}
+use Rattle.machine.specs.Record.{nullCell, fresh, idle, moving, atRest}
 use Rattle.machine.specs.Soundness.{presetsSound, positionSound, camSound, faultSound, suspendedSound, isNothing, isWaiting, restingSound, runningSound, stateSound, sound}
 use Rattle.machine.specs.Reports.{takesAtSpeed, takesHalted}
 use Rattle.machine.specs.Calls.{Call, Outcome, refused, act, apply, next, after}
 use Rattle.machine.specs.Calls.Call.{SendString, SetInputs, Millisecond, Step, AtSpeed, Halted, Wait}
+use Rattle.machine.specs.Images.{freshWith}
 use Rattle.machine.specs.declared.Remaining.{Remaining}
 use Rattle.machine.specs.declared.Remaining.the-variants.{Nothing, Counted, Timed}
 use Rattle.machine.specs.declared.Phase.{Phase}
@@ -35,6 +36,7 @@ use Rattle.machine.proofs.Inputs.{word-sound}
 use Rattle.machine.proofs.Reports.{speed-sound, halted-sound}
 use Rattle.machine.proofs.Hearing.{told-sound}
 use Rattle.machine.proofs.Waits.{wait-least}
+use Rattle.machine.proofs.Images.{filled-state, memory, memory-sound, Restores, loaded-restores}
 use Rattle.machine.specs.Invariant.{Kept, Invariant}
 
 -- sound, with lists of their full lengths
@@ -65,6 +67,19 @@ whole-good m w =
       outputs = w .parts .outputs;
       state = parts-state (w .parts);
     }
+
+-- 02: "a loaded one counts as fresh": it is sound
+pub restored-good : (s : List ℕ) (m : Machine) → Restores s m → Good m
+unfolding freshWith
+restored-good s m r =
+    subst Good (r .filled)
+    (record {
+      cells = memory-sound (r .cells) (r .cellsSound);
+      count = length-append (r .cells) (replicate 3 nullCell) ∙ ap (λ (k : ℕ). k + 3) (r .count);
+      inputs = refl;
+      outputs = refl;
+      state = filled-state (r .presets) (memory (r .cells)) (r .presetsSound);
+    })
 
 -- 01: "A fresh drive takes its address (0 to 47)"
 pub good-fresh : (a : ℕ) → a ≤ 47 → Good (fresh (record { 0 = a }))
@@ -183,6 +198,7 @@ pub invariant : Invariant
 invariant =
     record {
       begins = λ a h. good-kept _ (good-fresh a h);
+      loads = λ s m e. good-kept m (restored-good s m (loaded-restores s m e));
       goes = λ c m k. good-kept _ (good-next c m (kept-good m k));
       refuses = λ c m n. ap (λ (o : Outcome). o .machine) (refused-whole c m n);
       rests = λ m k. idle-rests m (kept-good m k);

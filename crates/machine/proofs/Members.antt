@@ -6,6 +6,7 @@ use native.Mathlib.Omega.{arith}
 use mathlib.Core.Path.{_≡_, refl, ap, sym, _∙_}
 use mathlib.Core.Bool.{Bool, true}
 use mathlib.Core.List.{List, [], _∷_, _++_, map, List·Memᴰ, List·Memᴰ·head, List·Memᴰ·tail, head-eq-of-cons-eq, tail-eq-of-cons-eq}
+use lib.ListN.{take}
 use Rattle.laws.specs.Tables.{every}
 use Rattle.laws.proofs.Tests.{both-left, both-right, both-true}
 use Rattle.machine.specs.Reading.{places}
@@ -48,6 +49,17 @@ every-append f [] b g h = h
 every-append f (x ∷ a) b g h = both-true (both-left _ _ g) (every-append f a b (both-right _ _ g) h)
 
 -- n places from k on
+pub every-front {ℓ} : {A : Type ℓ} (f : A → Bool) (a b : List A) → every f (a ++ b) ≡ true → every f a ≡ true
+unfolding every
+every-front f [] b t = refl
+every-front f (x ∷ a) b t = both-true (both-left _ _ t) (every-front f a b (both-right _ _ t))
+
+pub every-take {ℓ} : {A : Type ℓ} (f : A → Bool) (n : ℕ) (l : List A) → every f l ≡ true → every f (take n l) ≡ true
+unfolding every
+every-take f zero l t = refl
+every-take f (suc n) [] t = refl
+every-take f (suc n) (x ∷ l) t = both-true (both-left _ _ t) (every-take f n l (both-right _ _ t))
+
 pub member-places : (n k i : ℕ) → k ≤ i → i < k + n → List·Memᴰ i (places n k)
 unfolding places
 member-places zero k i l h = absurd (omega arith)

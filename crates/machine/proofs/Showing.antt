@@ -101,7 +101,7 @@ resolution-placed B3 = (refl, refl)
 resolution-injective : (r q : Resolution) → resolutionPlace r ≡ resolutionPlace q → r ≡ q
 resolution-injective r q e = sym (resolution-placed r .0) ∙ ap resolutionAt e ∙ resolution-placed q .0
 
-presets-small : (p : PresetValues) → presetsSound p ≡ true → (p .address .0 ≤ 47) × (p .current ≤ 3)
+pub presets-small : (p : PresetValues) → presetsSound p ≡ true → (p .address .0 ≤ 47) × (p .current ≤ 3)
 unfolding presetsSound
 presets-small p h = (leb-true _ _ (both-left _ _ h), leb-true _ _ (both-right _ _ h))
 

@@ -30,7 +30,7 @@ use Rattle.machine.specs.Record.{cellAt, storedAt, nullCell, idle}
 use Rattle.machine.specs.Soundness.{isCell}
 use Rattle.machine.specs.Commands.{codeIn, isCode, onFields, fieldsAt, onSent, storeIn, commandBy, commandOf}
 use Rattle.machine.specs.Answers.{memoryText, answerOf, accepted, answerAt}
-use Rattle.machine.specs.Acting.{sameNumbers, sameContent, keepsSuspended, storedState, named, actedAt, cellsAfter, namedCell, machineAfter}
+use Rattle.machine.specs.Acting.{sameContent, keepsSuspended, storedState, named, actedAt, cellsAfter, namedCell, machineAfter}
 use Rattle.machine.specs.Strings.{Heard, heard, isStart, allowed, carriedOut, told}
 use Rattle.machine.specs.Calls.{Call, Outcome, act, apply, next, after}
 use Rattle.machine.specs.Calls.Call.{SendString}
@@ -44,6 +44,7 @@ use Rattle.machine.specs.declared.commands.Command.{Command}
 use Rattle.machine.specs.declared.commands.Command.the-variants.{Store}
 use Rattle.machine.proofs.Invariant.{Good, good-sound}
 use Rattle.instruction.proofs.Values.{keeps-byte}
+use Rattle.instruction.proofs.Numbering.{same-numbers}
 use Rattle.instruction.proofs.Sending.{sent-text, length-text, text-ends}
 use Rattle.machine.proofs.Addressing.{own, ownAddress, string, addressedTo, digits-front, told-own}
 use Rattle.machine.proofs.Answering.{codeFor, textFor, answerTo, own-small, look-ask}
@@ -51,11 +52,6 @@ use Rattle.machine.proofs.Requests.{cell-asked}
 use Rattle.machine.proofs.Readings.{placed, place-cell, place-sound}
 
 -- ---- a cell stored again as it is
-
-same-numbers : (l : List ℕ) → sameNumbers l l ≡ true
-unfolding sameNumbers
-same-numbers [] = refl
-same-numbers (x ∷ l) = both-true (eq-eqb x x refl) (same-numbers l)
 
 same-content : (c : Content) → sameContent c c ≡ true
 unfolding sameContent

@@ -1,14 +1,14 @@
 -- 01, "Strings": what each command does to the drive. A command looks at one cell of the memory, and only WN changes the memory.
 -- Assumes nothing.
 use Prim.Native.Nat.{ℕ}
-use mathlib.Core.Bool.{Bool, true, false, not}
-use mathlib.Core.List.{List, [], _∷_}
+use mathlib.Core.Bool.{Bool, not}
+use mathlib.Core.List.{List}
 use lib.Dec.{eqb}
 use Rattle.laws.specs.Tests.{choose, both, either}
 use Rattle.units.specs.declared.CellAddress.{CellAddress}
 use Rattle.units.specs.declared.DriveAddress.{DriveAddress}
 use Rattle.instruction.specs.Codes.{codeOf}
-use Rattle.instruction.specs.Numbers.{numbersOf}
+use Rattle.instruction.specs.Numbers.{numbersOf, sameNumbers}
 use Rattle.instruction.specs.declared.Cell.{Cell}
 use Rattle.machine.specs.Record.{cellAt, storedAt, nothingSuspended, withPresets, withPosition, withCam, withOutput, withSuspended}
 use Rattle.machine.specs.Starting.{started}
@@ -25,12 +25,6 @@ use Rattle.machine.specs.declared.commands.Command.the-variants.{Store, 
 -- ---- WN
 
 -- 01, "Instructions": content is the whole stored instruction, with its next
-unfoldable pub sameNumbers : List ℕ → List ℕ → Bool
-sameNumbers [] [] = true
-sameNumbers [] (y ∷ ys) = false
-sameNumbers (x ∷ xs) [] = false
-sameNumbers (x ∷ xs) (y ∷ ys) = both (eqb x y) (sameNumbers xs ys)
-
 unfoldable pub sameContent : Cell → Cell → Bool
 sameContent c d =
     both (eqb (codeOf (c .instruction)) (codeOf (d .instruction))) (sameNumbers (numbersOf c) (numbersOf d))

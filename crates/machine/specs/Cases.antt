@@ -10,8 +10,8 @@ use Rattle.laws.specs.Tests.{choose, both}
 use Rattle.laws.specs.Tables.{every}
 use Rattle.laws.specs.Text.{bytes}
 use Rattle.frequency.specs.Rounding.{roundOf}
+use Rattle.instruction.specs.Numbers.{sameNumbers}
 use Rattle.machine.specs.Record.{fresh, moving}
-use Rattle.machine.specs.Acting.{sameNumbers}
 use Rattle.machine.specs.Calls.{Call, next, look, after}
 use Rattle.machine.specs.Calls.Call.{SendString, Millisecond}
 use Rattle.machine.specs.declared.Machine.{Machine}

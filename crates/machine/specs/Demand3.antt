@@ -8,12 +8,15 @@ use mathlib.Core.List.{List, [], _∷_, map}
 use Rattle.laws.specs.Tables.{every}
 use Rattle.machine.specs.Record.{fresh, idle}
 use Rattle.machine.specs.Calls.{Call, proper, after, seen}
+use Rattle.machine.specs.Operations.Made.{Drive}
+use Rattle.machine.specs.Images.{loadedOf}
 use Rattle.machine.specs.Reading.{reading, sentBack}
 use Rattle.machine.specs.declared.Machine.{Machine}
 
--- how a drive begins: "made fresh", with an address of 0 to 47
+-- how a drive begins: "made fresh", with an address of 0 to 47; or read from an image: 02, Slip 1, "a loaded one counts as fresh"
 pub data Begun : Machine → Type 0 where
   made : (address : ℕ) → address ≤ 47 → Begun (fresh (record { 0 = address }))
+  loaded : (image : List ℕ) (m : Machine) → loadedOf image ≡ Drive m → Begun m
 
 -- "Two drives are each made fresh, and each is put through a list of its own .. refused calls included. Whatever addresses and whatever lists these
 -- are, if both drives are idle afterwards"

@@ -10,6 +10,8 @@ use Rattle.instruction.specs.declared.Cell.{Cell}
 use Rattle.machine.specs.Record.{fresh, idle, atRest}
 use Rattle.machine.specs.Soundness.{sound}
 use Rattle.machine.specs.Waiting.{Least, wait}
+use Rattle.machine.specs.Operations.Made.{Drive}
+use Rattle.machine.specs.Images.{loadedOf}
 use Rattle.machine.specs.Calls.{Call, apply, next}
 use Rattle.machine.specs.declared.State.{State}
 use Rattle.machine.specs.declared.Machine.{Machine}
@@ -24,6 +26,8 @@ pub record Kept (m : Machine) : Type 0 where
 pub record Invariant : Type 0 where
   -- a fresh drive is sound
   pub begins : (a : ℕ) → a ≤ 47 → Kept (fresh (record { 0 = a }))
+  -- 02, Slip 1: a loaded drive is sound, and "counts as fresh"
+  pub loads : (image : List ℕ) (m : Machine) → loadedOf image ≡ Drive m → Kept m
   -- every call keeps a sound drive sound
   pub goes : (c : Call) (m : Machine) → Kept m → Kept (next c m)
   -- 01: "Every refusal hands back .. the drive as it came"

@@ -3,6 +3,7 @@
 -- Strings:             Strings (which are heard), Commands (what a string asks for), Answers (the bytes that answer), Acting (what a command does).
 -- Carrying out:        Starting, Taking (each code), Milliseconds, Stepping, Stopping (free run stop, emergency stop, PX), InputWords, Reports, Orders, Waiting.
 -- By operation:        Calls (each call with its refusals; lists of calls and what is seen of them), Operations (the answer buffer, fresh, board order).
+-- 02, Slip 1:          Images (what an image holds, written and read), MemoryImages (what images keep, as one statement), ImageCases (worked images).
 -- What calls keep:     Invariant (sound drives, refusals, idle drives, waits, as one statement).
 -- The demands:         Demand1; Demand2; Reading (the 165 requests), Demand3.
 -- Bench strings:       Cases (the cases marked *).
@@ -24,7 +25,9 @@ pub mod Orders
 pub mod Waiting
 pub mod Calls
 pub mod Operations
+pub mod Images
 pub mod Invariant
+pub mod MemoryImages
 pub mod Reading
 pub mod Demand3
 pub mod Demand1
@@ -32,3 +35,4 @@ pub mod Demand2
 pub mod Cases
 pub mod Worked
 pub mod WorkedCases
+pub mod ImageCases

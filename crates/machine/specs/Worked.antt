@@ -13,10 +13,9 @@ use Rattle.decimal.specs.Printing.{decimal}
 use Rattle.fields.specs.Rows.{printFields}
 use Rattle.fields.specs.declared.kinds.Kind.the-variants.{Count, Sign}
 use Rattle.format.specs.Formats.{bit}
-use Rattle.instruction.specs.Numbers.{bitOf}
+use Rattle.instruction.specs.Numbers.{bitOf, sameNumbers}
 use Rattle.machine.specs.Record.{inPX, inS0, inST, inES, inEE}
 use Rattle.machine.specs.Commands.{anySigned}
-use Rattle.machine.specs.Acting.{sameNumbers}
 use Rattle.machine.specs.Calls.{Call, Ending, proper, look, after, shown}
 use Rattle.machine.specs.Calls.Call.{Wait}
 use Rattle.machine.specs.Calls.Ending.{NoWait, Ended}

@@ -1,6 +1,6 @@
 // What a string asks for, once its fields are read.
 ghost use mathlib.Core.Path.{_≡_};
-ghost use Rattle.machine.specs.Commands.{presetKind};
+ghost use Rattle.machine.specs.Commands.{presetKind, resolutionAt};
 use crate::Resolution;
 use fields::kinds::Kind;
 use fields::names::Names;
@@ -91,4 +91,20 @@ pub fn preset_kind(preset: u32) -> Kind
         return Kind::Name(Names::Resolutions);
     }
     Kind::Count(0, 1)
+}
+
+// The value of RS at a place of its list.
+pub fn resolution_at(place: u32) -> Resolution
+    ensures { λ r. ⌜ r ≡ resolutionAt place ⌝ }
+{
+    match place {
+        0 => Resolution::D0,
+        1 => Resolution::D1,
+        2 => Resolution::D2,
+        3 => Resolution::D3,
+        4 => Resolution::B0,
+        5 => Resolution::B1,
+        6 => Resolution::B2,
+        _ => Resolution::B3,
+    }
 }

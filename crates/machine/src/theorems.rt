@@ -6,12 +6,15 @@ ghost use Rattle.machine.specs.Cases.{holds, starred};
 ghost use Rattle.machine.specs.Demand1.{Demand1};
 ghost use Rattle.machine.specs.Demand2.{Demand2};
 ghost use Rattle.machine.specs.Demand3.{Demand3};
+ghost use Rattle.machine.specs.ImageCases.{ImageCases};
 ghost use Rattle.machine.specs.Invariant.{Invariant};
+ghost use Rattle.machine.specs.MemoryImages.{MemoryImages};
 ghost use Rattle.machine.specs.WorkedCases.{WorkedCases};
 
-// A fresh drive is sound, every call keeps a sound drive sound, a refusal gives back the drive as
-// it came, an idle drive has its five busy fields zero, and a wait gives the least number of
-// milliseconds after which it may end. The statement is in specs/Invariant.antt.
+// A fresh drive is sound, and so is one read from an image; every call keeps a sound drive sound, a
+// refusal gives back the drive as it came, an idle drive has its five busy fields zero, and a wait
+// gives the least number of milliseconds after which it may end. The statement is in
+// specs/Invariant.antt.
 pub fn invariant()
     ensures { λ r. ⌜ Invariant ⌝ }
 {}
@@ -40,6 +43,13 @@ pub fn demand_three()
     ensures { λ r. ⌜ Demand3 ⌝ }
 {}
 
+// 02, Slip 1: an image that is written and read gives back the presets and cells 100 to 227 in a
+// drive that is else fresh; equal bytes are of equal presets and cells; and 10 refuses exactly the
+// bytes that the writer makes for no drive. The statement is in specs/MemoryImages.antt.
+pub fn memory_images()
+    ensures { λ r. ⌜ MemoryImages ⌝ }
+{}
+
 // Each case that 01 marks with a star holds. The table is in specs/Cases.antt.
 pub fn starred_cases()
     ensures { λ r. ⌜ every holds starred ≡ true ⌝ }
@@ -49,4 +59,10 @@ pub fn starred_cases()
 // the refusal that 01 or the manual gives. The tables are in specs/WorkedCases.antt.
 pub fn worked_cases()
     ensures { λ r. ⌜ WorkedCases ⌝ }
+{}
+
+// Each worked image holds: the bytes that are written for a drive, what a buffer holds then, and
+// which bytes are read. The tables are in specs/ImageCases.antt.
+pub fn image_cases()
+    ensures { λ r. ⌜ ImageCases ⌝ }
 {}

@@ -1,6 +1,6 @@
 // Commands with several fields: WN, WS, SO and SC.
 ghost use mathlib.Core.Path.{_≡_};
-ghost use Rattle.machine.specs.Commands.{resolutionAt, presetWith, camWith, camIn};
+ghost use Rattle.machine.specs.Commands.{presetWith, camWith, camIn};
 ghost use Rattle.parser.specs.Fields.{storeOf, presetOf, outputOf};
 use crate::row::FIELDS;
 use crate::row::row;
@@ -9,10 +9,10 @@ use fields::names::Names;
 use fields::rows;
 use instruction::text;
 use instruction::text::Sent;
-use machine::Resolution;
 use machine::commands::Command;
 use machine::commands::PresetValue;
 use machine::commands::preset_kind;
+use machine::commands::resolution_at;
 use units::CellAddress;
 use units::DriveAddress;
 
@@ -61,21 +61,6 @@ fn preset_with(preset: u32, value: u32) -> PresetValue
         2 => PresetValue::Resolution(resolution_at(value)),
         3 => PresetValue::Interlock(value == 1),
         _ => PresetValue::Absolute(value == 1),
-    }
-}
-
-fn resolution_at(place: u32) -> Resolution
-    ensures { λ r. ⌜ r ≡ resolutionAt place ⌝ }
-{
-    match place {
-        0 => Resolution::D0,
-        1 => Resolution::D1,
-        2 => Resolution::D2,
-        3 => Resolution::D3,
-        4 => Resolution::B0,
-        5 => Resolution::B1,
-        6 => Resolution::B2,
-        _ => Resolution::B3,
     }
 }
 

@@ -153,7 +153,7 @@ fn holding(code: u64, v: [u32; 6]) -> Cell
             next: CellAddress((v[0] % 256) as u8),
         };
     }
-    numbers::cell_of(integers::low(code), v)
+    numbers::cell_of(integers::low(code), &v)
 }
 
 pub fn cell(n: [u64; 7]) -> Made

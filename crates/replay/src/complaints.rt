@@ -11,9 +11,10 @@ fn place(complaint: Complaint) -> usize {
         Complaint::NotANumber => 2,
         Complaint::NumberTooLarge => 3,
         Complaint::NotHex => 4,
-        Complaint::UnknownName => 5,
-        Complaint::NoDrive => 6,
-        Complaint::LineTooLong => 7,
+        Complaint::NotImageHex => 5,
+        Complaint::UnknownName => 6,
+        Complaint::NoDrive => 7,
+        Complaint::LineTooLong => 8,
     }
 }
 
@@ -24,13 +25,18 @@ fn write_message(place: usize) {
         io::write_all(STDERR_FILENO, words::part(messages, place, b'\n'));
         return;
     }
-    if place < 6 {
-        let messages = b"a number is too large\nnot 1 to 256 bytes in lower-case hex\nunknown name";
+    if place < 5 {
+        let messages = b"a number is too large\nnot 1 to 256 bytes in lower-case hex";
         io::write_all(STDERR_FILENO, words::part(messages, place - 3, b'\n'));
         return;
     }
+    if place < 7 {
+        let messages = b"not 1 to 2048 bytes in lower-case hex\nunknown name";
+        io::write_all(STDERR_FILENO, words::part(messages, place - 5, b'\n'));
+        return;
+    }
     let messages = b"the first call is not an accepted F\nthe line is too long";
-    io::write_all(STDERR_FILENO, words::part(messages, place - 6, b'\n'));
+    io::write_all(STDERR_FILENO, words::part(messages, place - 7, b'\n'));
 }
 
 // A line on standard error.

@@ -24,6 +24,9 @@ use units::DriveAddress;
 // More bytes than one line of observations has.
 const ROOM: usize = 1024;
 
+// More bytes than the longest line has: an image of 2,048 bytes in hex.
+const LONGEST: usize = 8192;
+
 // What is to be done with a line.
 pub enum Verdict {
     PassOver,
@@ -55,11 +58,11 @@ fn judged(call: Call, begun: bool) -> Verdict {
 }
 
 // The call of a line of n bytes. One that fills the buffer was too long for it.
-fn call_of(line: &[u8], n: usize, string: &mut [u8; 256], numbers: &mut [u64; 7]) -> Call {
+fn call_of(line: &[u8], n: usize, text: &mut [u8; 2048], numbers: &mut [u64; 7]) -> Call {
     if line.len() <= n {
         return Call::Malformed(Complaint::LineTooLong);
     }
-    parse::parse(front(line, n), string, numbers)
+    parse::parse(front(line, n), text, numbers)
 }
 
 fn flush(out: &[u8], n: usize) {
@@ -82,13 +85,13 @@ fn taken(
     input: Input,
     line: &[u8],
     begun: bool,
-    string: &mut [u8; 256],
+    text: &mut [u8; 2048],
     numbers: &mut [u64; 7],
 ) -> Verdict {
     if !input.whole {
         return Verdict::PassOver;
     }
-    judged(call_of(line, input.kept, string, numbers), begun)
+    judged(call_of(line, input.kept, text, numbers), begun)
 }
 
 // Names a malformed line, after all that was seen before it.
@@ -112,16 +115,16 @@ fn replay(block: &mut [u8], line: &mut [u8], out: &mut Out) {
     let mut turns = u64::MAX;
     while turns > 0 {
         input = advanced(input, block, line);
-        let mut string = [0u8; 256];
+        let mut text = [0u8; 2048];
         let mut numbers = [0u64; 7];
-        let verdict = taken(input, line, begun, &mut string, &mut numbers);
+        let verdict = taken(input, line, begun, &mut text, &mut numbers);
         if let Verdict::Refuse(complaint) = verdict {
             refuse(out, at, input.lines, complaint);
             return;
         }
         if let Verdict::CarryOut(call) = verdict {
             at = with_room(out, at);
-            drive = perform(drive, call, &string, numbers, out, &mut at);
+            drive = perform(drive, call, &text, numbers, out, &mut at);
             at = put_drive(drive, out, at);
             begun = true;
         }
@@ -135,7 +138,7 @@ fn replay(block: &mut [u8], line: &mut [u8], out: &mut Out) {
 
 fn main() {
     let mut block = io::large_buffer();
-    let mut line = io::buffer();
+    let mut line = [0u8; LONGEST];
     let mut out = io::large_buffer();
     replay(&mut block, &mut line, &mut out);
 }

@@ -146,11 +146,30 @@ fn write(
     drive
 }
 
+// The image of the drive, into a buffer of some size, each byte of one value.
+fn save(drive: Drive, size: usize, fill: u8, out: &mut Out, at: usize) -> usize {
+    let mut space = [fill; 2048];
+    let buffer = lent(&mut space, size);
+    let written = image::writing::write(drive, buffer);
+    seen::put_image(out, at, written, buffer)
+}
+
+// A refused image leaves the drive before in use.
+fn load(mut drive: Drive, bytes: &[u8], out: &mut Out, at: &mut usize) -> Drive {
+    let loaded = image::reading::read(bytes);
+    let refusal = loaded.refusal;
+    *at = seen::put_plain(out, *at, refusal.number());
+    if refusal.number() == 0 {
+        drive = loaded.drive;
+    }
+    drive
+}
+
 // Carries out a call. A comment and a malformed line are none.
 pub fn perform(
     mut drive: Drive,
     call: Call,
-    string: &[u8; 256],
+    text: &[u8; 2048],
     numbers: [u64; 7],
     out: &mut Out,
     at: &mut usize,
@@ -160,12 +179,14 @@ pub fn perform(
         Call::Malformed(_) => {}
         Call::Fresh(number) => drive = make(drive, number, out, at),
         Call::Tell { length, size, fill } => {
-            drive = tell(drive, front(string, length), size, fill, out, at)
+            drive = tell(drive, front(text, length), size, fill, out, at)
         }
         Call::Happens(e) => drive = happen(drive, e, out, at),
         Call::Wait(budget) => drive = wait(drive, budget, out, at),
         Call::Looks(look) => *at = put_look(drive, look, out, *at),
         Call::Writes(w) => drive = write(drive, w, numbers, out, at),
+        Call::Save { size, fill } => *at = save(drive, size, fill, out, *at),
+        Call::Load { length } => drive = load(drive, front(text, length), out, at),
     }
     drive
 }

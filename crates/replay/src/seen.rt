@@ -3,6 +3,7 @@ use drive::Drive;
 use drive::results::Ending;
 use drive::results::Ordered;
 use frequency::Rounded;
+use image::results::Written;
 use lines::gathering::front;
 use lines::gathering::gather;
 use lines::gathering::gather_number;
@@ -46,6 +47,30 @@ pub fn put_told(out: &mut [u8], at: usize, number: u8, length: usize, buffer: &[
     let whole = Sum::new().with_all(buffer);
     let d = gather_number(out, c, whole.sum);
     gather(out, d, b" - -")
+}
+
+// A refusal, or the length of an image: how many bytes it has at the front of the buffer.
+fn put_length(out: &mut [u8], at: usize, written: Written, buffer: &[u8]) -> usize {
+    match written {
+        Written::Refused(refusal) => {
+            let a = put_refusal(out, at, refusal.number());
+            gather(out, a, b" -")
+        }
+        Written::Image { length } => {
+            let a = gather(out, at, b"- ");
+            let image = Sum::new().with_all(front(buffer, length));
+            gather_number(out, a, image.count)
+        }
+    }
+}
+
+// What is seen of an image that is written: its length, and all of the buffer.
+pub fn put_image(out: &mut [u8], at: usize, written: Written, buffer: &[u8]) -> usize {
+    let a = put_length(out, at, written, buffer);
+    let b = gather(out, a, b" ");
+    let whole = Sum::new().with_all(buffer);
+    let c = gather_number(out, b, whole.sum);
+    gather(out, c, b" - -")
 }
 
 // How a wait ended, and how many milliseconds it gave.

@@ -19,7 +19,7 @@ use requests::put_suspended;
 
 mod pieces;
 mod requests;
-mod values;
+pub mod values;
 
 // The answer to a command or request, given the cell that it names.
 pub fn put_answer(

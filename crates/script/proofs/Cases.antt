@@ -1,6 +1,6 @@
 -- Computed examples: each line of the table, each complaint in its order, what is put into text and numbers.
 -- Assumes nothing.
-use Prim.Native.Nat.{_-_, _^_}
+use Prim.Native.Nat.{ℕ, _-_, _^_}
 use Prim.Native.String.{String}
 use mathlib.Core.Path.{_≡_, refl}
 use mathlib.Core.List.{List, [], _∷_, _++_, map}
@@ -23,9 +23,9 @@ use Rattle.script.specs.declared.call.Look.the-variants.{Order, Rounding
 use Rattle.script.specs.declared.call.Write.the-variants.{Field, Output, Cell}
 use Rattle.script.specs.declared.call.Complaint.{Complaint}
 use Rattle.script.specs.declared.call.Complaint.the-variants.{NotACall, MissingOrExtraWord, NotANumber}
-use Rattle.script.specs.declared.call.Complaint.the-variants.{NumberTooLarge, NotHex, UnknownName}
+use Rattle.script.specs.declared.call.Complaint.the-variants.{NumberTooLarge, NotHex, NotImageHex, UnknownName}
 use Rattle.script.specs.declared.call.Call.{Call}
-use Rattle.script.specs.declared.call.Call.the-variants.{Comment, Malformed, Fresh, Tell, Happens, Wait, Looks, Writes}
+use Rattle.script.specs.declared.call.Call.the-variants.{Comment, Malformed, Fresh, Tell, Happens, Wait, Looks, Writes, Save, Load}
 
 -- every definition that a line goes through
 computing : Unit {0}
@@ -36,8 +36,8 @@ unfolding
     writes.withValue writes.fieldOf writes.withOutput writes.namedOutput writes.outputOf writes.valueOr0 writes.addressOf writes.isCell
     writes.isInteger writes.integerBefore writes.areIntegers writes.integersOf writes.codeOf writes.fieldCount writes.takesCount writes.cellOf
     writes.filled writes.cellNumbers writes.namedField writes.writeOf writes.numbersOf calls.formIn calls.formOf calls.wordCount
-    calls.onNumber calls.withBuffer calls.stringWith calls.stringOf calls.formed calls.counted calls.isComment calls.firstLetter
-    calls.ofLetter calls.callOf calls.formedText calls.countedText calls.textAfter calls.numbersAfter
+    calls.onNumber calls.withBuffer calls.stringWith calls.stringOf calls.withImageBuffer calls.saveWith calls.saveOf calls.loadWith calls.loadOf
+    calls.formed calls.counted calls.isComment calls.firstLetter calls.ofLetter calls.callOf calls.formedText calls.countedText calls.textAfter calls.numbersAfter
 computing = tt
 
 -- a line, and the call that must come
@@ -57,7 +57,8 @@ letters =
     gives "F 47" (Fresh 47) ∷ gives "S 303051410d 64 0" (Tell 5 64 0) ∷ gives "S - 256 255" (Tell 0 256 255) ∷
     gives "I 2048" (Happens (Inputs 2048)) ∷ gives "M" (Happens Millisecond) ∷ gives "P" (Happens Step) ∷
     gives "A" (Happens AtSpeed) ∷ gives "H" (Happens Halted) ∷ gives "W 1000001" (Wait 1000001) ∷ gives "B" (Looks Order) ∷
-    gives "R 4800" (Looks (Rounding 4800)) ∷ gives "Q" (Looks Reading) ∷ gives "# 01" Comment ∷ gives "#" Comment ∷
+    gives "R 4800" (Looks (Rounding 4800)) ∷ gives "Q" (Looks Reading) ∷ gives "O 0 255" (Save 0 255) ∷ gives "O 2048 0" (Save 2048 0) ∷
+    gives "L 000102" (Load 3) ∷ gives "L -" (Load 0) ∷ gives "# 01" Comment ∷ gives "#" Comment ∷
     []
 
 -- raw writes: fields with and without a sign, an output, cells, one of a code that there is not
@@ -76,7 +77,8 @@ abbrev wrongWords : List Case
 wrongWords =
     wrong "" NotACall ∷ wrong " M" NotACall ∷ wrong "m" NotACall ∷ wrong "MM" NotACall ∷ wrong "X 1 2" NotACall ∷
     wrong "M " MissingOrExtraWord ∷ wrong "F" MissingOrExtraWord ∷ wrong "F a b" MissingOrExtraWord ∷
-    wrong "S 30 64" MissingOrExtraWord ∷ wrong "K ad" MissingOrExtraWord ∷ wrong "K out CU" MissingOrExtraWord ∷
+    wrong "S 30 64" MissingOrExtraWord ∷ wrong "O 64" MissingOrExtraWord ∷ wrong "O 64 0 0" MissingOrExtraWord ∷
+    wrong "L" MissingOrExtraWord ∷ wrong "L 00 01" MissingOrExtraWord ∷ wrong "K ad" MissingOrExtraWord ∷ wrong "K out CU" MissingOrExtraWord ∷
     wrong "K c100 65 0" MissingOrExtraWord ∷ wrong "K c100 65" MissingOrExtraWord ∷ wrong "K c100 65 a" NotANumber ∷
     []
 
@@ -96,6 +98,13 @@ wrongStrings =
     wrong "S 30 64 256" NumberTooLarge ∷
     []
 
+-- the same of a buffer for an image, and an image
+abbrev wrongImages : List Case
+wrongImages =
+    wrong "O a b" NotANumber ∷ wrong "O -1 0" NotANumber ∷ wrong "O 2049 b" NotANumber ∷ wrong "O 2049 0" NumberTooLarge ∷
+    wrong "O 2048 256" NumberTooLarge ∷ wrong "L 0" NotImageHex ∷ wrong "L 0A" NotImageHex ∷ wrong "L " NotImageHex ∷
+    []
+
 -- names that are none, before what follows them
 abbrev wrongNames : List Case
 wrongNames =
@@ -105,21 +114,29 @@ wrongNames =
     []
 
 cases : List Case
-cases = letters ++ rawWrites ++ wrongWords ++ wrongNumbers ++ wrongStrings ++ wrongNames
+cases = letters ++ rawWrites ++ wrongWords ++ wrongNumbers ++ wrongStrings ++ wrongImages ++ wrongNames
 
 -- of each line comes its call
 calls-come : map (λ (c : Case). callOf (bytes (c .line))) cases ≡ map (λ (c : Case). c .call) cases
 unfolding computing cases
 calls-come = refl
 
--- the bytes of a string, up to a wrong digit; nothing of a line that is no string or has too few words
+-- the bytes of a string or an image, up to a wrong digit; nothing of another line or one that has too few words
 texts :
     map (λ (s : String). textAfter (bytes s) (9 ∷ 9 ∷ 9 ∷ []))
-    ("S 30af 64 0" ∷ "S 30 x y" ∷ "S 30xx41 64 0" ∷ "S 303 64 0" ∷ "S - 64 0" ∷ "S 30 64" ∷ "M" ∷ [])
+    ("S 30af 64 0" ∷ "S 30 x y" ∷ "S 30xx41 64 0" ∷ "S 303 64 0" ∷ "S - 64 0" ∷ "S 30 64" ∷ "M" ∷ "L 30af" ∷ "L 30xx" ∷ "L" ∷ "O 2 0" ∷ [])
     ≡ (48 ∷ 175 ∷ 9 ∷ []) ∷ (48 ∷ 9 ∷ 9 ∷ []) ∷ (48 ∷ 9 ∷ 9 ∷ []) ∷ (9 ∷ 9 ∷ 9 ∷ []) ∷ (9 ∷ 9 ∷ 9 ∷ []) ∷ (9 ∷ 9 ∷ 9 ∷ []) ∷
-    (9 ∷ 9 ∷ 9 ∷ []) ∷ []
+    (9 ∷ 9 ∷ 9 ∷ []) ∷ (48 ∷ 175 ∷ 9 ∷ []) ∷ (48 ∷ 9 ∷ 9 ∷ []) ∷ (9 ∷ 9 ∷ 9 ∷ []) ∷ (9 ∷ 9 ∷ 9 ∷ []) ∷ []
 unfolding computing
 texts = refl
+
+-- "A string has at most 256 bytes, an image at most 2048"
+longest :
+    map (λ (n : ℕ). callOf (bytes "S " ++ replicate n 48 ++ bytes " 0 0")) (512 ∷ 514 ∷ [])
+    ++ map (λ (n : ℕ). callOf (bytes "L " ++ replicate n 48)) (4096 ∷ 4098 ∷ [])
+    ≡ Tell 256 0 0 ∷ Malformed NotHex ∷ Load 2048 ∷ Malformed NotImageHex ∷ []
+unfolding computing
+longest = refl
 
 -- the numbers of a cell, seven at most, up to a word that is none; nothing of any other line
 numbers :

@@ -1,4 +1,4 @@
--- A string's bytes by the tests of its word, and minus a number.
+-- The bytes of a string or an image by the tests of its word, and minus a number.
 -- Assumes nothing.
 use Prim.Native.Nat.{ℕ, _+_, _-_, _*_, _/_, _%_, _^_, _≤_, _<_}
 use native.Mathlib.Omega.{arith}
@@ -18,41 +18,42 @@ use Rattle.script.specs.declared.hex.Decoded.the-variants.{Bytes, Bad}
 pub negative-is : (r v : ℕ) → (r + v) % 2 ^ 64 ≡ 0 → r < 2 ^ 64 → v < 2 ^ 32 → r ≡ (2 ^ 64 - v) % 2 ^ 64
 negative-is r v e h l = omega arith
 
-module _ (word : List ℕ) where
-  pub size-none : length word / 2 ≡ 0 → isSized word ≡ false
+module _ (most : ℕ) (word : List ℕ) where
+  pub size-none : length word / 2 ≡ 0 → isSized most word ≡ false
   unfolding isSized
   size-none e = both-false-left _ _ (lt-leb 1 (length word / 2) (omega arith))
 
-  pub size-large : 256 < length word / 2 → isSized word ≡ false
+  pub size-large : most < length word / 2 → isSized most word ≡ false
   unfolding isSized
-  size-large h = both-false-right _ _ (both-false-left _ _ (lt-leb (length word / 2) 256 h))
+  size-large h = both-false-right _ _ (both-false-left _ _ (lt-leb (length word / 2) most h))
 
-  pub size-odd : (length word / 2 * 2 ≡ length word → ⊥) → isSized word ≡ false
+  pub size-odd : (length word / 2 * 2 ≡ length word → ⊥) → isSized most word ≡ false
   unfolding isSized
   size-odd n = both-false-right _ _ (both-false-right _ _ (ne-eqb (length word / 2 * 2) (length word) n))
 
-  pub size-right : (length word / 2 ≡ 0 → ⊥) → length word / 2 ≤ 256 → length word / 2 * 2 ≡ length word → isSized word ≡ true
+  pub size-right : (length word / 2 ≡ 0 → ⊥) → length word / 2 ≤ most → length word / 2 * 2 ≡ length word → isSized most word ≡ true
   unfolding isSized
   size-right n h e =
       let some : 1 ≤ length word / 2 = omega arith in
-      both-true (le-leb 1 (length word / 2) some) (both-true (le-leb (length word / 2) 256 h) (eq-eqb (length word / 2 * 2) (length word) e))
+      both-true (le-leb 1 (length word / 2) some) (both-true (le-leb (length word / 2) most h) (eq-eqb (length word / 2 * 2) (length word) e))
 
-module _ (word text : List ℕ) where
-  pub decoded-none : isNone word ≡ true → (Bytes 0 ≡ decodedOf word) × (text ≡ textOf word text)
+module _ (most : ℕ) (word text : List ℕ) where
+  pub decoded-none : isNone word ≡ true → (Bytes 0 ≡ decodedOf most word) × (text ≡ textOf most word text)
   unfolding decodedOf textOf choose
   decoded-none t = (simp t, simp t)
 
-  pub decoded-size : isNone word ≡ false → isSized word ≡ false → (Bad ≡ decodedOf word) × (text ≡ textOf word text)
+  pub decoded-size : isNone word ≡ false → isSized most word ≡ false → (Bad ≡ decodedOf most word) × (text ≡ textOf most word text)
   unfolding decodedOf textOf choose both
   decoded-size n s = (simp (n, s), simp (n, s))
 
   pub decoded-digit :
-      isNone word ≡ false → isSized word ≡ true → isHex word ≡ false → (Bad ≡ decodedOf word) × (sets text 0 (bytesOf word) ≡ textOf word text)
+      isNone word ≡ false → isSized most word ≡ true → isHex word ≡ false →
+      (Bad ≡ decodedOf most word) × (sets text 0 (bytesOf word) ≡ textOf most word text)
   unfolding decodedOf textOf choose both
   decoded-digit n s h = (simp (n, s, h), simp (n, s))
 
   pub decoded-hex :
-      isNone word ≡ false → isSized word ≡ true → isHex word ≡ true →
-      (Bytes (length word / 2) ≡ decodedOf word) × (sets text 0 (bytesOf word) ≡ textOf word text)
+      isNone word ≡ false → isSized most word ≡ true → isHex word ≡ true →
+      (Bytes (length word / 2) ≡ decodedOf most word) × (sets text 0 (bytesOf word) ≡ textOf most word text)
   unfolding decodedOf textOf choose both
   decoded-hex n s h = (simp (n, s, h), simp (n, s))

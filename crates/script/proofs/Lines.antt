@@ -1,4 +1,4 @@
--- A line by its tests: a string by its words, a form by how many words it asks, a line by its letter.
+-- A line by its tests: a string, a buffer or an image by its words, a form by how many words it asks, a line by its letter.
 -- Assumes nothing.
 use Prim.Native.Nat.{ℕ}
 use native.Mathlib.Omega.{arith}
@@ -17,35 +17,61 @@ use Rattle.script.specs.Numbers.{unsignedOf}
 use Rattle.script.specs.Hex.{decodedOf}
 use Rattle.script.specs.Writes.{writeOf, numbersOf}
 use Rattle.script.specs.Calls.{Form, formIn, formOf, wordCount, onNumber, withBuffer, stringWith, stringOf, formed, counted}
+use Rattle.script.specs.Calls.{withImageBuffer, saveWith, saveOf, loadWith, loadOf}
 use Rattle.script.specs.Calls.{formedText, countedText, isComment, firstLetter, ofLetter, callOf, textAfter, numbersAfter}
 use Rattle.script.specs.declared.hex.Decoded.the-variants as decoded
-use Rattle.script.specs.declared.call.Complaint.the-variants.{NotACall, MissingOrExtraWord, NotANumber, NotHex}
-use Rattle.script.specs.declared.call.Call.the-variants.{Comment, Malformed}
-use Rattle.script.proofs.Forms.{text-kept}
+use Rattle.script.specs.declared.call.Complaint.the-variants.{NotACall, MissingOrExtraWord, NotANumber, NotHex, NotImageHex}
+use Rattle.script.specs.declared.call.Call.the-variants.{Comment, Malformed, Load}
+use Rattle.script.proofs.Forms.{isImage, text-kept}
 
 -- ---- a string
 
 module _ (ws : List (List ℕ)) where
-  pub string-hex : decodedOf (getD ws 1 []) ≡ decoded.Bad → Malformed NotHex ≡ stringOf ws
+  pub string-hex : decodedOf 256 (getD ws 1 []) ≡ decoded.Bad → Malformed NotHex ≡ stringOf ws
   unfolding stringOf stringWith
   string-hex e = simp e
 
   pub string-size :
-      {n : ℕ} → decodedOf (getD ws 1 []) ≡ decoded.Bytes n → unsignedOf (getD ws 2 []) ≡ number.Bad → Malformed NotANumber ≡ stringOf ws
+      {n : ℕ} → decodedOf 256 (getD ws 1 []) ≡ decoded.Bytes n → unsignedOf (getD ws 2 []) ≡ number.Bad → Malformed NotANumber ≡ stringOf ws
   unfolding stringOf stringWith
   string-size e s = simp (e, s)
 
   pub string-fill :
-      {n size : ℕ} → decodedOf (getD ws 1 []) ≡ decoded.Bytes n → unsignedOf (getD ws 2 []) ≡ number.Value size →
+      {n size : ℕ} → decodedOf 256 (getD ws 1 []) ≡ decoded.Bytes n → unsignedOf (getD ws 2 []) ≡ number.Value size →
       unsignedOf (getD ws 3 []) ≡ number.Bad → Malformed NotANumber ≡ stringOf ws
   unfolding stringOf stringWith onNumber
   string-fill e s f = simp (e, s, f)
 
   pub string-good :
-      {n size fill : ℕ} → decodedOf (getD ws 1 []) ≡ decoded.Bytes n → unsignedOf (getD ws 2 []) ≡ number.Value size →
+      {n size fill : ℕ} → decodedOf 256 (getD ws 1 []) ≡ decoded.Bytes n → unsignedOf (getD ws 2 []) ≡ number.Value size →
       unsignedOf (getD ws 3 []) ≡ number.Value fill → withBuffer n size fill ≡ stringOf ws
   unfolding stringOf stringWith onNumber
   string-good e s f = simp (e, s, f)
+
+  -- ---- a buffer for an image, and an image
+
+  pub save-size : unsignedOf (getD ws 1 []) ≡ number.Bad → Malformed NotANumber ≡ saveOf ws
+  unfolding saveOf saveWith
+  save-size s = simp s
+
+  pub save-fill :
+      {size : ℕ} → unsignedOf (getD ws 1 []) ≡ number.Value size → unsignedOf (getD ws 2 []) ≡ number.Bad → Malformed NotANumber ≡ saveOf ws
+  unfolding saveOf saveWith onNumber
+  save-fill s f = simp (s, f)
+
+  pub save-good :
+      {size fill : ℕ} → unsignedOf (getD ws 1 []) ≡ number.Value size → unsignedOf (getD ws 2 []) ≡ number.Value fill →
+      withImageBuffer size fill ≡ saveOf ws
+  unfolding saveOf saveWith onNumber
+  save-good s f = simp (s, f)
+
+  pub load-hex : decodedOf 2048 (getD ws 1 []) ≡ decoded.Bad → Malformed NotImageHex ≡ loadOf ws
+  unfolding loadOf loadWith
+  load-hex e = simp e
+
+  pub load-good : {n : ℕ} → decodedOf 2048 (getD ws 1 []) ≡ decoded.Bytes n → Load n ≡ loadOf ws
+  unfolding loadOf loadWith
+  load-good e = simp e
 
 -- ---- a form
 
@@ -71,10 +97,10 @@ module _ (f : Form) (ws : List (List ℕ)) (text : List ℕ) where
   unfolding countedText choose
   text-right e = simp (eq-eqb (length ws) (wordCount f) e)
 
-  -- no string, no bytes
-  pub text-other : (wordCount f ≡ 4 → ⊥) → text ≡ countedText f ws text
+  -- no string and no image, no bytes
+  pub text-other : (wordCount f ≡ 4 → ⊥) → isImage f ≡ false → text ≡ countedText f ws text
   unfolding countedText
-  text-other n = choose-by (λ (t : List ℕ). text ≡ t) (eqb (length ws) (wordCount f)) (λ e. sym (text-kept ws text f n)) (λ e. refl)
+  text-other n i = choose-by (λ (t : List ℕ). text ≡ t) (eqb (length ws) (wordCount f)) (λ e. sym (text-kept ws text f n i)) (λ e. refl)
 
 -- ---- a comment
 
@@ -107,12 +133,12 @@ module _ (ws : List (List ℕ)) where
   call-none = refl
 
   pub text-none : (text : List ℕ) → text ≡ countedText (formOf 0) ws text
-  unfolding formOf formIn wordCount choose bytes
-  text-none text = text-other (formOf 0) ws text (λ e. omega arith)
+  unfolding formOf formIn wordCount isImage choose bytes
+  text-none text = text-other (formOf 0) ws text (λ e. omega arith) refl
 
   pub text-write : (text : List ℕ) (letter : ℕ) → letter ≡ 75 → text ≡ countedText (formOf letter) ws text
-  unfolding formOf formIn wordCount choose bytes
-  text-write text letter e = rw e (text-other (formOf 75) ws text (λ w. omega arith))
+  unfolding formOf formIn wordCount isImage choose bytes
+  text-write text letter e = rw e (text-other (formOf 75) ws text (λ w. omega arith) refl)
 
 module _ (line : List ℕ) {letter : ℕ} where
   pub call-write : isComment line ≡ false → firstLetter (wordsOf line) ≡ letter → letter ≡ 75 → writeOf (wordsOf line) ≡ callOf line

@@ -1,4 +1,4 @@
--- docs/SCRIPTS.md, "A script": a line as a call. Text and numbers are what a string's bytes and a cell's numbers are put into.
+-- docs/SCRIPTS.md, "A script": a line as a call. Text and numbers are what the bytes of a string or an image, and a cell's numbers are put into.
 -- Assumes nothing.
 use Prim.Native.Nat.{ℕ}
 use Prim.Native.String.{String}
@@ -18,15 +18,17 @@ use Rattle.script.specs.declared.hex.Decoded.{Decoded}
 use Rattle.script.specs.declared.hex.Decoded.the-variants as decoded
 use Rattle.script.specs.declared.call.Event.the-variants.{Inputs, Millisecond, Step, AtSpeed, Halted}
 use Rattle.script.specs.declared.call.Look.the-variants.{Order, Rounding, Reading}
-use Rattle.script.specs.declared.call.Complaint.the-variants.{NotACall, MissingOrExtraWord, NotANumber, NumberTooLarge, NotHex}
+use Rattle.script.specs.declared.call.Complaint.the-variants.{NotACall, MissingOrExtraWord, NotANumber, NumberTooLarge, NotHex, NotImageHex}
 use Rattle.script.specs.declared.call.Call.{Call}
-use Rattle.script.specs.declared.call.Call.the-variants.{Comment, Malformed, Fresh, Tell, Happens, Wait, Looks}
+use Rattle.script.specs.declared.call.Call.the-variants.{Comment, Malformed, Fresh, Tell, Happens, Wait, Looks, Save, Load}
 
--- what follows a line's letter: nothing, a number, or a string with its buffer; or no line begins so
+-- what follows a line's letter: nothing, a number, a string with its buffer, a buffer for an image, or an image; or no line begins so
 pub data Form : Type 0 where
   Alone : Call → Form
   WithNumber : (ℕ → Call) → Form
   WithString : Form
+  WithBuffer : Form
+  WithImage : Form
   NoForm : Form
 
 pub record Line : Type 0 where
@@ -53,6 +55,8 @@ lines =
     line "B" (Alone (Looks Order)) ∷
     line "R" (WithNumber (λ f. Looks (Rounding f))) ∷
     line "Q" (Alone (Looks Reading)) ∷
+    line "O" WithBuffer ∷
+    line "L" WithImage ∷
     []
 
 unfoldable pub formIn : List Line → ℕ → Form
@@ -67,6 +71,8 @@ unfoldable pub wordCount : Form → ℕ
 wordCount (Alone call) = 1
 wordCount (WithNumber call) = 2
 wordCount WithString = 4
+wordCount WithBuffer = 3
+wordCount WithImage = 2
 wordCount NoForm = 0
 
 unfoldable pub onNumber : (ℕ → Call) → Number → Call
@@ -85,19 +91,44 @@ stringWith (decoded.Bytes n) number.Bad fill = Malformed NotANumber
 stringWith (decoded.Bytes n) (number.Value size) fill = onNumber (withBuffer n size) fill
 
 unfoldable pub stringOf : List (List ℕ) → Call
-stringOf words = stringWith (decodedOf (getD words 1 [])) (unsignedOf (getD words 2 [])) (unsignedOf (getD words 3 []))
+stringOf words = stringWith (decodedOf 256 (getD words 1 [])) (unsignedOf (getD words 2 [])) (unsignedOf (getD words 3 []))
+
+-- "a buffer of n bytes (0 to 2048), each of value b"
+unfoldable pub withImageBuffer : ℕ → ℕ → Call
+withImageBuffer size fill =
+    choose (leb size 2048) (choose (leb fill 255) (Save size fill) (Malformed NumberTooLarge)) (Malformed NumberTooLarge)
+
+-- "`O n b`"
+unfoldable pub saveWith : Number → Number → Call
+saveWith number.Bad fill = Malformed NotANumber
+saveWith (number.Value size) fill = onNumber (withImageBuffer size) fill
+
+unfoldable pub saveOf : List (List ℕ) → Call
+saveOf words = saveWith (unsignedOf (getD words 1 [])) (unsignedOf (getD words 2 []))
+
+-- "`L hex`"
+unfoldable pub loadWith : Decoded → Call
+loadWith decoded.Bad = Malformed NotImageHex
+loadWith (decoded.Bytes n) = Load n
+
+unfoldable pub loadOf : List (List ℕ) → Call
+loadOf words = loadWith (decodedOf 2048 (getD words 1 []))
 
 -- the call of a form alone, and of one with a number; of any other form that of the last letter
 unfoldable pub aloneCall : Form → Call
 aloneCall (Alone call) = call
 aloneCall (WithNumber call) = Looks Reading
 aloneCall WithString = Looks Reading
+aloneCall WithBuffer = Looks Reading
+aloneCall WithImage = Looks Reading
 aloneCall NoForm = Looks Reading
 
 unfoldable pub numberCall : Form → ℕ → Call
 numberCall (Alone call) v = Looks (Rounding v)
 numberCall (WithNumber call) v = call v
 numberCall WithString v = Looks (Rounding v)
+numberCall WithBuffer v = Looks (Rounding v)
+numberCall WithImage v = Looks (Rounding v)
 numberCall NoForm v = Looks (Rounding v)
 
 -- the call of a line that has as many words as its form asks
@@ -105,6 +136,8 @@ unfoldable pub formed : Form → List (List ℕ) → Call
 formed (Alone call) words = call
 formed (WithNumber call) words = onNumber call (unsignedOf (getD words 1 []))
 formed WithString words = stringOf words
+formed WithBuffer words = saveOf words
+formed WithImage words = loadOf words
 formed NoForm words = Malformed NotACall
 
 unfoldable pub counted : Form → List (List ℕ) → Call
@@ -132,7 +165,9 @@ callOf line = choose (isComment line) Comment (ofLetter (firstLetter (wordsOf li
 unfoldable pub formedText : Form → List (List ℕ) → List ℕ → List ℕ
 formedText (Alone call) words text = text
 formedText (WithNumber call) words text = text
-formedText WithString words text = textOf (getD words 1 []) text
+formedText WithString words text = textOf 256 (getD words 1 []) text
+formedText WithBuffer words text = text
+formedText WithImage words text = textOf 2048 (getD words 1 []) text
 formedText NoForm words text = text
 
 -- a line with too few or too many words leaves the text alone

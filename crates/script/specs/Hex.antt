@@ -1,4 +1,4 @@
--- The bytes of a string: "its bytes in lower-case hex (`-` for none)".
+-- The bytes of a string or an image: "its bytes in lower-case hex (`-` for none)".
 -- Assumes nothing.
 use Prim.Native.Nat.{ℕ, _+_, _-_, _*_, _/_}
 use mathlib.Core.Bool.{Bool, true, false}
@@ -39,17 +39,17 @@ isHex (high ∷ low ∷ s) = both (ltb (pairOf (nibbleOf high) (nibbleOf low)) 2
 unfoldable pub isNone : List ℕ → Bool
 isNone word = sameBytes word (bytes "-")
 
--- "A string has at most 256 bytes": 1 to 256 times two digits
-unfoldable pub isSized : List ℕ → Bool
-isSized word = both (leb 1 (length word / 2)) (both (leb (length word / 2) 256) (eqb (length word / 2 * 2) (length word)))
+-- "A string has at most 256 bytes, an image at most 2048": 1 to so many times two digits
+unfoldable pub isSized : ℕ → List ℕ → Bool
+isSized most word = both (leb 1 (length word / 2)) (both (leb (length word / 2) most) (eqb (length word / 2 * 2) (length word)))
 
 -- how many bytes a word says
-unfoldable pub decodedOf : List ℕ → Decoded
-decodedOf word =
+unfoldable pub decodedOf : ℕ → List ℕ → Decoded
+decodedOf most word =
     choose (isNone word) (Bytes 0)
-    (choose (both (isSized word) (isHex word)) (Bytes (length word / 2)) Bad)
+    (choose (both (isSized most word) (isHex word)) (Bytes (length word / 2)) Bad)
 
 -- the text after a word is read into it: its bytes at the front, and behind them what was there.
 -- A word of a wrong size leaves it alone; one with a wrong digit leaves the bytes before that
-unfoldable pub textOf : List ℕ → List ℕ → List ℕ
-textOf word text = choose (isNone word) text (choose (isSized word) (sets text 0 (bytesOf word)) text)
+unfoldable pub textOf : ℕ → List ℕ → List ℕ → List ℕ
+textOf most word text = choose (isNone word) text (choose (isSized most word) (sets text 0 (bytesOf word)) text)

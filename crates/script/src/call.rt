@@ -6,6 +6,7 @@ pub enum Complaint {
     NotANumber,
     NumberTooLarge,
     NotHex,
+    NotImageHex,
     UnknownName,
     // The first call is not an accepted F.
     NoDrive,
@@ -51,4 +52,13 @@ pub enum Call {
     Wait(u32),
     Looks(Look),
     Writes(Write),
+    // An image of the drive, with its buffer.
+    Save {
+        size: usize,
+        fill: u8,
+    },
+    // The image stands at the front of the text.
+    Load {
+        length: usize,
+    },
 }

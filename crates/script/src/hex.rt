@@ -1,5 +1,6 @@
-// The bytes of a string in lower-case hex.
+// The bytes of a string or an image in lower-case hex.
 ghost use mathlib.Core.Path.{_≡_};
+ghost use Prim.Native.Nat.{_≤_};
 ghost use Rattle.script.specs.Hex.{nibbleOf, pairOf, decodedOf, textOf};
 
 // How many bytes were read, or that a word is not so many bytes in hex.
@@ -32,10 +33,12 @@ fn pair(high: u8, low: u8) -> u16
     (high * 16 + low) as u16
 }
 
-// At most 256 bytes, put at the front of the text; `-` for none.
-pub fn decode(word: &[u8], text: &mut [u8; 256]) -> Decoded
-    ensures { λ r. ⌜ r ≡ decodedOf (now (word .entry)) ⌝ }
-    ensures text { λ r. ⌜ now (text .exit) ≡ textOf (now (word .entry)) (now (text .entry)) ⌝ }
+// Bytes, `most` of them at most, put at the front of the text; `-` for none.
+pub fn decode(word: &[u8], most: usize, text: &mut [u8; 2048]) -> Decoded
+    requires { ⌜ most ≤ 2048 ⌝ }
+    ensures { λ r. ⌜ r ≡ decodedOf most (now (word .entry)) ⌝ }
+    ensures text { λ r. ⌜ now (text .exit) ≡
+        textOf most (now (word .entry)) (now (text .entry)) ⌝ }
 {
     if check::same(word, b"-") {
         return Decoded::Bytes(0);
@@ -44,7 +47,7 @@ pub fn decode(word: &[u8], text: &mut [u8; 256]) -> Decoded
     if n == 0 {
         return Decoded::Bad;
     }
-    if 256 < n {
+    if most < n {
         return Decoded::Bad;
     }
     if n * 2 != word.len() {

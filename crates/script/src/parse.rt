@@ -5,7 +5,8 @@ ghost use lib.ListN.{length, getD};
 ghost use Rattle.script.specs.Words.{wordsOf};
 ghost use Rattle.script.specs.Hex.{textOf};
 ghost use Rattle.script.specs.Calls.{formOf, wordCount, aloneCall, numberCall, onNumber};
-ghost use Rattle.script.specs.Calls.{withBuffer, stringOf, counted, countedText};
+ghost use Rattle.script.specs.Calls.{withBuffer, stringOf, withImageBuffer, saveOf, loadOf};
+ghost use Rattle.script.specs.Calls.{counted, countedText};
 ghost use Rattle.script.specs.Calls.{isComment, callOf, textAfter, numbersAfter};
 use crate::call::Call;
 use crate::call::Complaint;
@@ -17,6 +18,11 @@ use crate::numbers;
 use crate::words;
 use crate::writes;
 use decimal::parse::Number;
+
+// How many bytes a string has at most, and an image.
+const LONGEST_STRING: usize = 256;
+
+const LONGEST_IMAGE: usize = 2048;
 
 // How many words the calls have; 0 where the letter names none.
 fn words_of(letter: u8) -> usize
@@ -34,6 +40,8 @@ fn words_of(letter: u8) -> usize
         b'B' => 1,
         b'R' => 2,
         b'Q' => 1,
+        b'O' => 3,
+        b'L' => 2,
         _ => 0,
     }
 }
@@ -81,12 +89,12 @@ fn with_buffer(length: usize, size: u32, fill: u32) -> Call
     }
 }
 
-fn string(line: &[u8], text: &mut [u8; 256]) -> Call
+fn string(line: &[u8], text: &mut [u8; 2048]) -> Call
     ensures { λ r. ⌜ r ≡ stringOf (wordsOf (now (line .entry))) ⌝ }
     ensures text { λ r. ⌜ now (text .exit) ≡
-        textOf (getD (wordsOf (now (line .entry))) 1 []) (now (text .entry)) ⌝ }
+        textOf 256 (getD (wordsOf (now (line .entry))) 1 []) (now (text .entry)) ⌝ }
 {
-    let decoded = hex::decode(words::part(line, 1, b' '), text);
+    let decoded = hex::decode(words::part(line, 1, b' '), LONGEST_STRING, text);
     let Decoded::Bytes(length) = decoded else {
         return Call::Malformed(Complaint::NotHex);
     };
@@ -101,7 +109,48 @@ fn string(line: &[u8], text: &mut [u8; 256]) -> Call
     with_buffer(length, size, fill)
 }
 
-fn of_letter(letter: u8, line: &[u8], count: usize, text: &mut [u8; 256]) -> Call
+fn with_image_buffer(size: u32, fill: u32) -> Call
+    ensures { λ r. ⌜ r ≡ withImageBuffer size fill ⌝ }
+{
+    if 2048 < size {
+        return Call::Malformed(Complaint::NumberTooLarge);
+    }
+    if 255 < fill {
+        return Call::Malformed(Complaint::NumberTooLarge);
+    }
+    Call::Save {
+        size: size as usize,
+        fill: fill as u8,
+    }
+}
+
+fn save(line: &[u8]) -> Call
+    ensures { λ r. ⌜ r ≡ saveOf (wordsOf (now (line .entry))) ⌝ }
+{
+    let first = numbers::unsigned(words::part(line, 1, b' '));
+    let Number::Value(size) = first else {
+        return Call::Malformed(Complaint::NotANumber);
+    };
+    let second = numbers::unsigned(words::part(line, 2, b' '));
+    let Number::Value(fill) = second else {
+        return Call::Malformed(Complaint::NotANumber);
+    };
+    with_image_buffer(size, fill)
+}
+
+fn load(line: &[u8], text: &mut [u8; 2048]) -> Call
+    ensures { λ r. ⌜ r ≡ loadOf (wordsOf (now (line .entry))) ⌝ }
+    ensures text { λ r. ⌜ now (text .exit) ≡
+        textOf 2048 (getD (wordsOf (now (line .entry))) 1 []) (now (text .entry)) ⌝ }
+{
+    let decoded = hex::decode(words::part(line, 1, b' '), LONGEST_IMAGE, text);
+    let Decoded::Bytes(length) = decoded else {
+        return Call::Malformed(Complaint::NotImageHex);
+    };
+    Call::Load { length }
+}
+
+fn of_letter(letter: u8, line: &[u8], count: usize, text: &mut [u8; 2048]) -> Call
     requires { ⌜ count ≡ length (wordsOf (now line)) ⌝ }
     ensures { λ r. ⌜ r ≡ counted (formOf letter) (wordsOf (now (line .entry))) ⌝ }
     ensures text { λ r. ⌜ now (text .exit) ≡
@@ -117,8 +166,14 @@ fn of_letter(letter: u8, line: &[u8], count: usize, text: &mut [u8; 256]) -> Cal
     if wanted == 1 {
         return plain(letter);
     }
+    if letter == b'L' {
+        return load(line, text);
+    }
     if wanted == 2 {
         return with_number(letter, numbers::unsigned(words::part(line, 1, b' ')));
+    }
+    if wanted == 3 {
+        return save(line);
     }
     string(line, text)
 }
@@ -133,9 +188,9 @@ fn is_comment(line: &[u8]) -> bool
     line[0] == b'#'
 }
 
-// The call of a line. The bytes of a string are put into the text, the numbers of a raw cell into
-// the numbers; what they leave of them is as it was.
-pub fn parse(line: &[u8], text: &mut [u8; 256], numbers: &mut [u64; 7]) -> Call
+// The call of a line. The bytes of a string or an image are put into the text, the numbers of a raw
+// cell into the numbers; what they leave of them is as it was.
+pub fn parse(line: &[u8], text: &mut [u8; 2048], numbers: &mut [u64; 7]) -> Call
     ensures { λ r. ⌜ r ≡ callOf (now (line .entry)) ⌝ }
     ensures text { λ r. ⌜ now (text .exit) ≡
         textAfter (now (line .entry)) (now (text .entry)) ⌝ }

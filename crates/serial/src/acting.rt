@@ -10,6 +10,7 @@ ghost use Rattle.machine.specs.Commands.{placed};
 ghost use Rattle.machine.specs.Acting.{sameContent, storedState, withResolution, presetSet};
 ghost use Rattle.machine.specs.Acting.{named as namedOf, actedAt};
 use instruction::Cell;
+use instruction::numbers::same_numbers;
 use machine::Cam;
 use machine::Presets;
 use machine::Remaining;
@@ -31,15 +32,7 @@ pub fn same_content(a: Cell, b: Cell) -> bool
 {
     let x = a.instruction;
     let y = b.instruction;
-    let xs = a.numbers();
-    let ys = b.numbers();
-    let mut same = x.code() == y.code();
-    let mut i: usize = 0;
-    while i < 6 {
-        same = same & (xs[i] == ys[i]);
-        i += 1;
-    }
-    same
+    (x.code() == y.code()) & same_numbers(a.numbers(), b.numbers())
 }
 
 fn emptied(mut state: State) -> State

@@ -1,7 +1,10 @@
 //! Scripts reach every phase of every code by every event, every refusal of every operation, both
-//! answers to every command and request, and the rare happenings, each at least so many times.
+//! answers to every command and request, the rare happenings, and images with every field at its ends
+//! and beyond them, each at least so many times.
 
+use crate::images::{judged, PRESETS};
 use crate::scripts::{walk, Call, Moment};
+use reference::generate::layout::{self, Field};
 use reference::instruction::Instruction;
 use reference::memory::{Drive, Phase, Remaining};
 use reference::raw;
@@ -212,6 +215,9 @@ pub fn refusals(scripts: &[Vec<Call>], least: usize) {
         "wait 2",
         "wait 8",
         "reading 2",
+        "image 2",
+        "image 9",
+        "load 10",
     ];
     all_counted(&counts, &refusals.map(str::to_string), least);
 }
@@ -230,6 +236,8 @@ fn operation(call: &Call) -> &'static str {
         Call::Rounding(_) => "rounding",
         Call::Reading => "reading",
         Call::Raw(_) => "raw",
+        Call::Image { .. } => "image",
+        Call::Load(_) => "load",
     }
 }
 
@@ -305,8 +313,6 @@ pub fn instructions_and_presets(scripts: &[Vec<Call>], least: usize) {
     });
     all_counted(&counts, &cells.chain(presets).collect::<Vec<_>>(), least);
 }
-
-const PRESETS: [&str; 5] = ["AD", "IN", "RS", "ES", "CM"];
 
 /// What happens seldom: its name, and how a moment is known to be one.
 type Happening = (&'static str, fn(&Moment) -> bool);
@@ -449,11 +455,70 @@ fn started(m: &Moment) -> bool {
 pub fn happenings(scripts: &[Vec<Call>], least: usize) {
     let mut counts = Counts::new();
     walk(scripts, |moment| {
-        if !moment.before.sound() || matches!(moment.call, Call::Raw(_) | Call::Fresh(_)) {
+        let another_drive = matches!(moment.call, Call::Raw(_) | Call::Fresh(_) | Call::Load(_));
+        if !moment.before.sound() || another_drive {
             return;
         }
         let happened = HAPPENINGS.iter().filter(|(_, known)| known(&moment));
         happened.for_each(|(name, _)| count(&mut counts, name));
     });
     all_counted(&counts, &HAPPENINGS.map(|(name, _)| name.to_string()), least);
+}
+
+/// Drives that an image is asked of, and that one is loaded over.
+pub fn images(scripts: &[Vec<Call>], least: usize) {
+    let mut counts = Counts::new();
+    walk(scripts, |moment| {
+        let operation = operation(moment.call);
+        if operation != "image" && operation != "load" {
+            return;
+        }
+        let state = match moment.before {
+            drive if !drive.sound() => "unsound",
+            drive if drive.idle() => "idle",
+            drive if drive.moving() => "moving",
+            _ => "waiting",
+        };
+        let outcome = moment.seen.refusal.map_or("done".to_string(), |number| number.to_string());
+        count(&mut counts, format!("{operation} {state} {outcome}"));
+    });
+    let sound = ["idle", "waiting", "moving"];
+    let images = sound.map(|state| [format!("image {state} done"), format!("image {state} 9")]);
+    let loads = sound.map(|state| [format!("load {state} done"), format!("load {state} 10")]);
+    let unsound = ["image unsound 2", "load unsound done", "load unsound 10"].map(str::to_string);
+    let keys = images.into_iter().chain(loads).flatten().chain(unsound);
+    all_counted(&counts, &keys.collect::<Vec<_>>(), least);
+}
+
+/// What an image can show, or have wrong, at one of its numbers.
+fn image_keys(name: &str, field: Field) -> Vec<String> {
+    let marks: &[&str] = match field {
+        Field::Code => &[],
+        Field::Frequency => &["lowest", "highest", "not in the table"],
+        Field::Next => &["000", "lowest", "highest", "below", "above"],
+        // What is above 32 bits is too large for any number.
+        Field::Within(0, high) if high == u32::MAX.into() => &["lowest", "highest"],
+        Field::Within(0, _) => &["lowest", "highest", "above"],
+        Field::Within(..) => &["lowest", "highest", "below", "above"],
+    };
+    marks.iter().map(|mark| format!("{name} {mark}")).collect()
+}
+
+pub fn image_fields(scripts: &[Vec<Call>], least: usize) {
+    let mut counts = Counts::new();
+    walk(scripts, |moment| {
+        let Call::Load(bytes) = moment.call else { return };
+        match judged(bytes) {
+            Ok(ends) => ends.iter().for_each(|end| count(&mut counts, end)),
+            Err(fault) => count(&mut counts, fault),
+        }
+    });
+    let faults = ["cut", "after the end", "longer form", "too large", "unknown code"];
+    let faults = faults.iter().chain(&["unset cam with a number"]).map(|fault| fault.to_string());
+    let presets = PRESETS.iter().zip(layout::PRESETS);
+    let presets = presets.flat_map(|(name, field)| image_keys(name, field));
+    let fields = layout::CODES.iter().flat_map(|(code, fields)| {
+        (1..).zip(*fields).flat_map(move |(place, f)| image_keys(&format!("{code}.{place}"), *f))
+    });
+    all_counted(&counts, &faults.chain(presets).chain(fields).collect::<Vec<_>>(), least);
 }

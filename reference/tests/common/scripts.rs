@@ -19,9 +19,12 @@ pub enum Call {
     Rounding(u32),
     Reading,
     Raw(Vec<String>),
+    Image { length: usize, fill: u8 },
+    Load(Vec<u8>),
 }
 
-/// What one call showed. `buffer` is the answer buffer afterwards.
+/// What one call showed. `answer` is its length, `buffer` the whole buffer afterwards, of a string
+/// or an image.
 #[derive(Default, Debug, PartialEq)]
 pub struct Seen {
     pub refusal: Option<u8>,
@@ -76,6 +79,8 @@ fn parse(line: &str) -> Call {
         "R" => Call::Rounding(number(1)),
         "Q" => Call::Reading,
         "K" => Call::Raw(words[1..].iter().map(|word| word.to_string()).collect()),
+        "O" => Call::Image { length: number(1) as usize, fill: words[2].parse().expect("a byte") },
+        "L" => Call::Load(bytes(words[1])),
         _ => panic!("no call in `{line}`"),
     }
 }
@@ -101,6 +106,8 @@ pub fn carry_out(drive: &mut Drive, call: &Call) -> Seen {
         Call::Rounding(value) => plain(round_frequency(*value).map(drop)),
         Call::Reading => plain(read(drive)),
         Call::Raw(words) => write_raw(drive, words),
+        Call::Image { length, fill } => save(drive, *length, *fill),
+        Call::Load(bytes) => plain(Drive::load(bytes).map(|loaded| *drive = loaded)),
     }
 }
 
@@ -112,6 +119,12 @@ fn say(drive: &mut Drive, bytes: &[u8], length: usize, fill: u8) -> Seen {
     let mut buffer = vec![fill; length];
     let result = drive.string(bytes, &mut buffer);
     Seen { refusal: result.err(), answer: result.ok().flatten(), buffer, wait: None }
+}
+
+fn save(drive: &Drive, length: usize, fill: u8) -> Seen {
+    let mut buffer = vec![fill; length];
+    let result = drive.image(&mut buffer);
+    Seen { refusal: result.err(), answer: result.ok(), buffer, wait: None }
 }
 
 fn waited(result: Result<(End, u32), u8>) -> Seen {

@@ -62,10 +62,10 @@ fn input(rest: &str) -> u32 {
     u32::from(level == "1") << place
 }
 
-/// A further list: another script's calls, its strings at this address.
+/// A further list: another script's calls that keep the drive, its strings at this address.
 fn further(seed: u64, address: u8) -> Vec<Call> {
     let mut list = calls(&script(1_000_000 + seed, 80));
-    list.retain(|call| !matches!(call, Call::Fresh(_) | Call::Raw(_)));
+    list.retain(|call| !matches!(call, Call::Fresh(_) | Call::Raw(_) | Call::Load(_)));
     for call in &mut list {
         if let Call::String { bytes, .. } = call {
             if bytes.len() > 2 && !bytes.starts_with(b"99") {

@@ -2,16 +2,16 @@
 -- Assumes nothing.
 use Prim.Native.Nat.{ℕ}
 use mathlib.Core.Path.{_≡_, refl, sym, ap, _∙_}
-use mathlib.Core.List.{List, [], _∷_}
+use mathlib.Core.List.{List}
 use lib.ListN.{getD}
 use Rattle.laws.specs.Tests.{choose}
-use Rattle.laws.proofs.Telling.{Apart, unequal-apart}
 use Rattle.units.specs.declared.CellAddress.{CellAddress}
 use Rattle.instruction.specs.declared.Cell.{Cell}
 use Rattle.instruction.specs.declared.Instruction.{Instruction}
-use Rattle.instruction.specs.declared.Instruction.the-variants.{Null, OpeningLoop, ClosingLoop, CurrentSetting}
-use Rattle.instruction.specs.Numbers.{cellWith, cellOf, withNext}
+use Rattle.instruction.specs.declared.Instruction.the-variants.{OpeningLoop, ClosingLoop, CurrentSetting}
+use Rattle.instruction.specs.Numbers.{cellWith, cellOf}
 use borrow.Author.Needs.{needs}
+use Rattle.instruction.proofs.Numbering.{other-cell}
 use Rattle.instruction.proofs.numbers.cell_of.Statement.{statement}
 use Rattle.instruction.proofs.numbers.cell_of.Tie as tie
 
@@ -22,14 +22,6 @@ told : (v : List ℕ) {code k : ℕ} {i j : Instruction} {d : CellAddress} {r : 
     r ≡ cellOf code v
 unfolding cellOf
 told v {d = d} e q p t = q ∙ ap (λ (i : Instruction). record { instruction = i; next = d }) p ∙ sym (ap (λ (k : ℕ). cellOf k v) e ∙ t)
-
--- the codes of the other arms
-abbrev others : List ℕ
-others = 1 ∷ 31 ∷ 2 ∷ 32 ∷ 11 ∷ 21 ∷ 12 ∷ 22 ∷ 3 ∷ 5 ∷ 57 ∷ 58 ∷ 60 ∷ 61 ∷ 62 ∷ 63 ∷ 65 ∷ 70 ∷ 69 ∷ []
-
-other : (code : ℕ) (v : List ℕ) → Apart (Unit {0}) code others → withNext Null (getD v 0 0) ≡ cellOf code v
-unfolding cellOf cellWith choose
-other code v n = let f = unequal-apart (Unit {0}) code others n .1 in cc
 
 pub cell-of-spec : {M : Type 1} → statement M
 unfolding cellWith choose
@@ -106,4 +98,4 @@ cell-of-spec =
     (λ c. told _ (c .before .match .keys17) (c .with-next17 .ensures) refl refl)
     (λ c. told _ (c .before .before .match .keys18) (c .with-next18 .ensures) (ap CurrentSetting (c .before .one4 .ensures)) refl)
     (λ c. told _ (c .before .match .keys19) (c .with-next19 .ensures) refl refl)
-    (λ c. c .with-next20 .ensures ∙ other _ _ (c .before .match .rest)))
+    (λ c. c .with-next20 .ensures ∙ other-cell _ _ (c .before .match .rest)))

@@ -51,13 +51,13 @@ cell-of-requires c κs = search needs
 
 returns-4 : tie.Need-returns-4
 returns-4 c =
-    let q = c .before .before .before .before in
+    let q = c .before .before .before .before .before in
     let f = q .before .before .before .before in
     let p = f .before .before .before in
     ap Held (c .cell-of .ensures) ∙ sym (code-read _ _ _ _ (p .before .code-row .ensures) (p .parse-fields .ensures)
     ∙ code-known _ _ _ _ (not-false _ (f .before .before .if1 .left)) (f .format-of .ensures) (not-false _ (q .before .before .if2 .left))
     (q .parse-all .ensures)
-    ∙ fields-held _ _ (not-false _ (c .before .before .if3 .left)))
+    ∙ fields-held _ _ (not-false _ (c .before .before .before .if3 .left)))
 
 pub read-cell-spec : {M : Type 1} → statement M
 read-cell-spec =

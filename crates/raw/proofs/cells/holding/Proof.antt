@@ -23,5 +23,5 @@ holding-spec =
     (λ c κs. tt)
     (λ c κs. tt)
     (λ c.
-    rw (ne-eqb _ _ (c .before .before .before .if1 .left), ne-eqb _ _ (c .before .before .if2 .left))
-    (simp (c .before .low .ensures) at (c .cell-of .ensures))))
+    rw (ne-eqb _ _ (c .before .before .before .before .if1 .left), ne-eqb _ _ (c .before .before .before .if2 .left))
+    (simp (c .before .before .low .ensures) at (c .cell-of .ensures))))

@@ -20,11 +20,11 @@ use Rattle.script.proofs.hex.decode.Statement.{statement}
 use Rattle.script.proofs.hex.decode.Tie as tie
 
 abbrev Inv-loop : tie.InvT-loop
-Inv-loop word text₀ n i₀ text i =
+Inv-loop word most text₀ n i₀ text i =
     (i ≤ n) × ((isHex word ≡ isHex (drop (i * 2) word)) × (sets text₀ 0 (bytesOf word) ≡ sets text i (bytesOf (drop (i * 2) word))))
 
 abbrev μ-loop : tie.MeasureT-loop
-μ-loop word text₀ n i₀ text i = n - i
+μ-loop word most text₀ n i₀ text i = n - i
 
 -- what the code makes of two digits
 pair-value :
@@ -43,7 +43,7 @@ returns c =
     let word = a .word .now in
     let text = a .text .now in
     let test = same-as (same .result) word (bytes "-") (same .ensures .0) (same .ensures .1) in
-    decoded-none word text (sym test ∙ c .if1 .taken)
+    decoded-none (a .most) word text (sym test ∙ c .if1 .taken)
 
 returns-2 : tie.Need-returns-2 Inv-loop μ-loop
 unfolding isNone bytes
@@ -54,7 +54,7 @@ returns-2 c =
     let word = a .word .now in
     let text = a .text .now in
     let test = same-as (same .result) word (bytes "-") (same .ensures .0) (same .ensures .1) in
-    decoded-size word text (sym test ∙ if1 .left) (size-none word (c .if2 .taken))
+    decoded-size (a .most) word text (sym test ∙ if1 .left) (size-none (a .most) word (c .if2 .taken))
 
 returns-3 : tie.Need-returns-3 Inv-loop μ-loop
 unfolding isNone bytes
@@ -65,7 +65,7 @@ returns-3 c =
     let word = a .word .now in
     let text = a .text .now in
     let test = same-as (same .result) word (bytes "-") (same .ensures .0) (same .ensures .1) in
-    decoded-size word text (sym test ∙ if1 .left) (size-large word (c .if3 .taken))
+    decoded-size (a .most) word text (sym test ∙ if1 .left) (size-large (a .most) word (c .if3 .taken))
 
 returns-4 : tie.Need-returns-4 Inv-loop μ-loop
 unfolding isNone bytes
@@ -76,7 +76,7 @@ returns-4 c =
     let word = a .word .now in
     let text = a .text .now in
     let test = same-as (same .result) word (bytes "-") (same .ensures .0) (same .ensures .1) in
-    decoded-size word text (sym test ∙ if1 .left) (size-odd word (c .if4 .taken))
+    decoded-size (a .most) word text (sym test ∙ if1 .left) (size-odd (a .most) word (c .if4 .taken))
 
 loop-holds : tie.Need-loop-holds Inv-loop μ-loop
 loop-holds c = (omega arith, (refl, refl))
@@ -98,12 +98,12 @@ returns-5 c =
     let word = a .word .now in
     let text = a .text .now in
     let test = same-as (same .result) word (bytes "-") (same .ensures .0) (same .ensures .1) in
-    let sized = size-right word (if2 .left) (if3 .left) (if4 .left) in
+    let sized = size-right (a .most) word (if2 .left) (if3 .left) (if4 .left) in
     let value = pair-value word (l .i * 2) (nibble .ensures) (nibble2 .ensures) (pair .ensures) in
     let wrong = le-ltb (pairAt word (l .i * 2)) 256 (omega arith) in
     let last : isHex (drop (l .i * 2) word) ≡ false = hex-turn word (l .i * 2) (omega arith) ∙ (simp wrong) in
     let none : bytesOf (drop (l .i * 2) word) ≡ [] = bytes-turn word (l .i * 2) (omega arith) ∙ (simp wrong) in
-    let d = decoded-digit word text (sym test ∙ if1 .left) sized (l .inv .1 .0 ∙ last) in
+    let d = decoded-digit (a .most) word text (sym test ∙ if1 .left) sized (l .inv .1 .0 ∙ last) in
     (d .0, ap (λ (p : List ℕ). sets (l .text) (l .i) p) (sym none) ∙ sym (l .inv .1 .1) ∙ d .1)
 
 loop-again : tie.Need-loop-again Inv-loop μ-loop
@@ -146,9 +146,9 @@ returns-6 c =
     let word = a .word .now in
     let text = a .text .now in
     let test = same-as (same .result) word (bytes "-") (same .ensures .0) (same .ensures .1) in
-    let sized = size-right word (if2 .left) (if3 .left) (if4 .left) in
+    let sized = size-right (a .most) word (if2 .left) (if3 .left) (if4 .left) in
     let all : drop (l .i * 2) word ≡ [] = drop-all word (l .i * 2) (omega arith) in
-    let d = decoded-hex word text (sym test ∙ if1 .left) sized (l .inv .1 .0 ∙ ap isHex all) in
+    let d = decoded-hex (a .most) word text (sym test ∙ if1 .left) sized (l .inv .1 .0 ∙ ap isHex all) in
     (d .0, ap (λ (x : List ℕ). sets (l .text) (l .i) (bytesOf x)) (sym all) ∙ sym (l .inv .1 .1) ∙ d .1)
 
 pub decode-spec : {M : Type 1} → statement M

@@ -18,8 +18,8 @@ returns c =
     let part = c .before .before .before .before .part in
     let decode = c .before .before .decode in
     let ws = wordsOf (a .line .now) in
-    let bytes = sym (decode .ensures .0 ∙ ap decodedOf (part .ensures)) in
-    let text = decode .ensures .1 ∙ ap (λ (w : List ℕ). textOf w (a .text .now)) (part .ensures) in
+    let bytes = sym (decode .ensures .0 ∙ ap (decodedOf 256) (part .ensures)) in
+    let text = decode .ensures .1 ∙ ap (λ (w : List ℕ). textOf 256 w (a .text .now)) (part .ensures) in
     (string-hex ws (bytes ∙ c .enum-told .given .1), text)
 
 returns-2 : tie.Need-returns-2
@@ -33,8 +33,8 @@ returns-2 c =
     let part2 = c .before .before .before .part2 in
     let unsigned = c .before .before .unsigned in
     let ws = wordsOf (a .line .now) in
-    let bytes = sym (decode .ensures .0 ∙ ap decodedOf (part .ensures)) in
-    let text = decode .ensures .1 ∙ ap (λ (w : List ℕ). textOf w (a .text .now)) (part .ensures) in
+    let bytes = sym (decode .ensures .0 ∙ ap (decodedOf 256) (part .ensures)) in
+    let text = decode .ensures .1 ∙ ap (λ (w : List ℕ). textOf 256 w (a .text .now)) (part .ensures) in
     let size = sym (unsigned .ensures ∙ ap unsignedOf (part2 .ensures)) in
     (string-size ws (bytes ∙ decoded .given .1) (size ∙ c .enum-told2 .given .1), text)
 
@@ -52,8 +52,8 @@ returns-3 c =
     let part3 = c .before .before .before .part3 in
     let unsigned2 = c .before .before .unsigned2 in
     let ws = wordsOf (a .line .now) in
-    let bytes = sym (decode .ensures .0 ∙ ap decodedOf (part .ensures)) in
-    let text = decode .ensures .1 ∙ ap (λ (w : List ℕ). textOf w (a .text .now)) (part .ensures) in
+    let bytes = sym (decode .ensures .0 ∙ ap (decodedOf 256) (part .ensures)) in
+    let text = decode .ensures .1 ∙ ap (λ (w : List ℕ). textOf 256 w (a .text .now)) (part .ensures) in
     let size = sym (unsigned .ensures ∙ ap unsignedOf (part2 .ensures)) in
     let fill = sym (unsigned2 .ensures ∙ ap unsignedOf (part3 .ensures)) in (
       string-fill ws (bytes ∙ decoded .given .1) (size ∙ second .given .1) (fill ∙ c .enum-told3 .given .1),
@@ -75,8 +75,8 @@ returns-4 c =
     let unsigned2 = c .before .before .before .before .unsigned2 in
     let third = c .before .before .third in
     let ws = wordsOf (a .line .now) in
-    let bytes = sym (decode .ensures .0 ∙ ap decodedOf (part .ensures)) in
-    let text = decode .ensures .1 ∙ ap (λ (w : List ℕ). textOf w (a .text .now)) (part .ensures) in
+    let bytes = sym (decode .ensures .0 ∙ ap (decodedOf 256) (part .ensures)) in
+    let text = decode .ensures .1 ∙ ap (λ (w : List ℕ). textOf 256 w (a .text .now)) (part .ensures) in
     let size = sym (unsigned .ensures ∙ ap unsignedOf (part2 .ensures)) in
     let fill = sym (unsigned2 .ensures ∙ ap unsignedOf (part3 .ensures)) in (
       c .with-buffer .ensures

@@ -1,12 +1,12 @@
--- `resolution_at` meets its contract: each arm is a test of the definition.
+-- `machine::commands::resolution_at` meets its contract: each arm is a test of the definition.
 -- Assumes nothing.
 use mathlib.Core.Path.{refl}
 use borrow.Author.Tests.{ne-eqb}
 use Rattle.laws.specs.Tests.{choose}
 use Rattle.laws.proofs.Telling.{told}
 use Rattle.machine.specs.Commands.{resolutionAt}
-use Rattle.parser.proofs.commands.resolution_at.Statement.{statement}
-use Rattle.parser.proofs.commands.resolution_at.Tie as tie
+use Rattle.machine.proofs.commands.resolution_at.Statement.{statement}
+use Rattle.machine.proofs.commands.resolution_at.Tie as tie
 
 pub resolution-at-spec : {M : Type 1} → statement M
 unfolding resolutionAt choose

@@ -1,0 +1,3 @@
+// What an image holds, as bytes: rows of numbers in groups of seven bits, and cells made of them.
+pub mod cells;
+pub mod rows;
