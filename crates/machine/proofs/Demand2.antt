@@ -114,21 +114,22 @@ cells-same m n g h i j e r =
 abbrev after : List ℕ → List ℕ → Machine → Machine
 after b buffer m = next (SendString b buffer) m
 
-module _ (b buffer d other : List ℕ) (m : Machine) (g : Good m) (x : Left b buffer m) (y : Left d other m) where
-  -- each cell stands at its place
-  here : cellAt (after b buffer m .cells) (addressAt (x .place)) ≡ x .content
-  here = set-here (m .cells) (after b buffer m .cells) (x .place) (x .content) (g .count) (x .within) (x .cells)
+-- a cell that a string leaves stands at its place
+here : (b buffer : List ℕ) (m : Machine) → Good m → (x : Left b buffer m) → cellAt (after b buffer m .cells) (addressAt (x .place)) ≡ x .content
+here b buffer m g x = set-here (m .cells) (after b buffer m .cells) (x .place) (x .content) (g .count) (x .within) (x .cells)
 
-  -- two strings for two cells that leave the same cells leave them as they were
-  other-place : after b buffer m .cells ≡ after d other m .cells → x .place ≢ y .place → after b buffer m ≡ m
-  other-place e n =
-      let a = addressAt (x .place) in
-      let same : cellAt (m .cells) a ≡ x .content =
-      place-cell (m .cells) a (omega arith)
-      ∙ sym (getD-set-other (m .cells) (y .place) (x .place) (y .content) nullCell n)
-      ∙ ap (λ (l : List Content). getD l (x .place) nullCell) (sym (y .cells) ∙ sym e)
-      ∙ sym (place-cell (after b buffer m .cells) a (omega arith)) ∙ here in
-      x .whole ∙ ap (stored m a) (sym same) ∙ stored-same m a
+-- two strings for two cells that leave the same cells leave them as they were
+other-place :
+    (b buffer d other : List ℕ) (m : Machine) → Good m → (x : Left b buffer m) (y : Left d other m) →
+    after b buffer m .cells ≡ after d other m .cells → x .place ≢ y .place → after b buffer m ≡ m
+other-place b buffer d other m g x y e n =
+    let a = addressAt (x .place) in
+    let same : cellAt (m .cells) a ≡ x .content =
+    place-cell (m .cells) a (omega arith)
+    ∙ sym (getD-set-other (m .cells) (y .place) (x .place) (y .content) nullCell n)
+    ∙ ap (λ (l : List Content). getD l (x .place) nullCell) (sym (y .cells) ∙ sym e)
+    ∙ sym (place-cell (after b buffer m .cells) a (omega arith)) ∙ here b buffer m g x in
+    x .whole ∙ ap (stored m a) (sym same) ∙ stored-same m a
 
 strings-same :
     (b d buffer other : List ℕ) (m : Machine) → Good m → Left b buffer m → Left d other m →
@@ -144,8 +145,8 @@ strings-same b d buffer other m g x y r = by (ℕ-discrete (x .place) (y .place)
     by (no n) = other-place b buffer d other m g x y cells n ∙ sym (other-place d other b buffer m g y x (sym cells) (λ q. n (sym q)))
     by (yes q) =
         let content =
-        sym (here b buffer d other m g x y) ∙ ap (λ (l : List Content). cellAt l (addressAt (x .place))) cells
-        ∙ ap (λ (k : ℕ). cellAt (after d other m .cells) (addressAt k)) q ∙ here d other b buffer m g y x in
+        sym (here b buffer m g x) ∙ ap (λ (l : List Content). cellAt l (addressAt (x .place))) cells
+        ∙ ap (λ (k : ℕ). cellAt (after d other m .cells) (addressAt k)) q ∙ here d other m g y in
         x .whole ∙ ap (stored m (addressAt (x .place))) content ∙ ap (λ (k : ℕ). stored m (addressAt k) (y .content)) q ∙ sym (y .whole)
 
 pub demand2 : Demand2

@@ -82,23 +82,24 @@ later-first (k ∷ ks) s at i x vs =
     (λ start end. value-by (First x) (parseField k (part s start end)) (λ v. later-first ks s end (suc i) x (set vs i v)) (none x)) (none x)
 
 -- so it is the value of the first field alone
-module _ (k : Kind) (ks : List Kind) (s : List ℕ) (vs : List ℕ) where
-  abbrev alone : ℕ → ℕ → Parsed
-  alone end v = record { ok = true; at = end; values = v ∷ vs }
+abbrev alone : List ℕ → ℕ → ℕ → Parsed
+alone vs end v = record { ok = true; at = end; values = v ∷ vs }
 
-  abbrev first : ℕ → ℕ → Parsed
-  first end v = fieldsFrom ks s end 1 (v ∷ vs)
+abbrev first : List Kind → List ℕ → List ℕ → ℕ → ℕ → Parsed
+first ks s vs end v = fieldsFrom ks s end 1 (v ∷ vs)
 
-  first-number : (n : Number) (end : ℕ) → First (getD (onValue n (alone end) .values) 0 0) (onValue n (first end))
-  first-number (Value v) end = later-first ks s end 0 v vs
-  first-number Bad end = none _
+first-number :
+    (ks : List Kind) (s vs : List ℕ) (n : Number) (end : ℕ) →
+    First (getD (onValue n (alone vs end) .values) 0 0) (onValue n (first ks s vs end))
+first-number ks s vs (Value v) end = later-first ks s end 0 v vs
+first-number ks s vs Bad end = none _
 
-  first-field :
-      (x : Extent) →
-      First (getD (onField x (λ start end. onValue (parseField k (part s start end)) (alone end)) .values) 0 0)
-      (onField x (λ start end. onValue (parseField k (part s start end)) (first end)))
-  first-field (Field start end) = first-number (parseField k (part s start end)) end
-  first-field Missing = none _
+first-field :
+    (k : Kind) (ks : List Kind) (s vs : List ℕ) (x : Extent) →
+    First (getD (onField x (λ start end. onValue (parseField k (part s start end)) (alone vs end)) .values) 0 0)
+    (onField x (λ start end. onValue (parseField k (part s start end)) (first ks s vs end)))
+first-field k ks s vs (Field start end) = first-number ks s vs (parseField k (part s start end)) end
+first-field k ks s vs Missing = none _
 
 first-value :
     (k : Kind) (ks : List Kind) (s : List ℕ) (from : ℕ) → First (getD (parseFields (k ∷ []) s from .values) 0 0) (parseFields (k ∷ ks) s from)

@@ -52,30 +52,29 @@ wrong-leaves : Leaves Wrong
 unfolding Leaves carriedOut machineAfter cellsAfter
 wrong-leaves aa m = refl
 
-module _ (s : List ℕ) where
-  on-all : (ks : List Kind) (f : List ℕ → Command) → ((vs : List ℕ) → Leaves (f vs)) → Leaves (onAll ks s f)
-  unfolding onAll
-  on-all ks f p = on-fields Leaves _ f (λ t. p _) wrong-leaves
+on-all : (s : List ℕ) (ks : List Kind) (f : List ℕ → Command) → ((vs : List ℕ) → Leaves (f vs)) → Leaves (onAll ks s f)
+unfolding onAll
+on-all s ks f p = on-fields Leaves _ f (λ t. p _) wrong-leaves
 
-  other-leaves : isCode "WN" (codeIn s) ≡ false → Leaves (commandOf s)
-  unfolding Leaves commandOf commandBy presetIn camIn camWith carriedOut machineAfter cellsAfter
-  other-leaves w =
-      choose-by Leaves _ (λ t. clash (sym w ∙ t)) (λ t.
-      choose-by Leaves _ (λ t. on-fields Leaves _ _ (λ u. on-fields Leaves _ _ (λ v aa m. refl) wrong-leaves) wrong-leaves) (λ t.
-      choose-by Leaves _ (λ t. on-all _ _ (λ vs aa m. refl)) (λ t.
-      choose-by Leaves _ (λ t. on-all _ _ (λ vs aa m. refl)) (λ t.
-      choose-by Leaves _ (λ t. on-all _ _ (λ vs aa m. refl)) (λ t.
-      choose-by Leaves _ (λ t. on-all _ _ (λ vs aa m. refl)) (λ t.
-      choose-by Leaves _ (λ t. on-all _ _ (λ vs aa m. refl)) (λ t.
-      choose-by Leaves _ (λ t. choose-by Leaves _ (λ u aa m. refl) (λ u. on-all _ _ (λ vs aa m. refl))) (λ t.
-      choose-by Leaves _ (λ t. on-all _ _ (λ vs aa m. refl)) (λ t.
-      choose-by Leaves _ (λ t. on-all _ _ (λ vs aa m. refl)) (λ t.
-      choose-by Leaves _ (λ t. on-all _ _ (λ vs aa m. refl)) (λ t.
-      choose-by Leaves _ (λ t. on-all _ _ (λ vs aa m. refl)) (λ t.
-      choose-by Leaves _ (λ t. on-all _ _ (λ vs aa m. refl)) (λ t.
-      choose-by Leaves _ (λ t. on-all _ _ (λ vs aa m. refl)) (λ t.
-      choose-by Leaves _ (λ t. on-all _ _ (λ vs aa m. refl)) (λ t.
-      choose-by Leaves _ (λ t. on-all _ _ (λ vs aa m. refl)) (λ t. wrong-leaves))))))))))))))))
+other-leaves : (s : List ℕ) → isCode "WN" (codeIn s) ≡ false → Leaves (commandOf s)
+unfolding Leaves commandOf commandBy presetIn camIn camWith carriedOut machineAfter cellsAfter
+other-leaves s w =
+    choose-by Leaves _ (λ t. clash (sym w ∙ t)) (λ t.
+    choose-by Leaves _ (λ t. on-fields Leaves _ _ (λ u. on-fields Leaves _ _ (λ v aa m. refl) wrong-leaves) wrong-leaves) (λ t.
+    choose-by Leaves _ (λ t. on-all s _ _ (λ vs aa m. refl)) (λ t.
+    choose-by Leaves _ (λ t. on-all s _ _ (λ vs aa m. refl)) (λ t.
+    choose-by Leaves _ (λ t. on-all s _ _ (λ vs aa m. refl)) (λ t.
+    choose-by Leaves _ (λ t. on-all s _ _ (λ vs aa m. refl)) (λ t.
+    choose-by Leaves _ (λ t. on-all s _ _ (λ vs aa m. refl)) (λ t.
+    choose-by Leaves _ (λ t. choose-by Leaves _ (λ u aa m. refl) (λ u. on-all s _ _ (λ vs aa m. refl))) (λ t.
+    choose-by Leaves _ (λ t. on-all s _ _ (λ vs aa m. refl)) (λ t.
+    choose-by Leaves _ (λ t. on-all s _ _ (λ vs aa m. refl)) (λ t.
+    choose-by Leaves _ (λ t. on-all s _ _ (λ vs aa m. refl)) (λ t.
+    choose-by Leaves _ (λ t. on-all s _ _ (λ vs aa m. refl)) (λ t.
+    choose-by Leaves _ (λ t. on-all s _ _ (λ vs aa m. refl)) (λ t.
+    choose-by Leaves _ (λ t. on-all s _ _ (λ vs aa m. refl)) (λ t.
+    choose-by Leaves _ (λ t. on-all s _ _ (λ vs aa m. refl)) (λ t.
+    choose-by Leaves _ (λ t. on-all s _ _ (λ vs aa m. refl)) (λ t. wrong-leaves))))))))))))))))
 
 unanswered-machine : (b : Bool) (h : Heard) → unanswered b h .machine ≡ h .machine
 unfolding unanswered

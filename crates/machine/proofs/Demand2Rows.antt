@@ -71,45 +71,45 @@ ends-print [] vs = tt
 ends-print (k ∷ ks) [] = tt
 ends-print (k ∷ ks) (v ∷ vs) = refl
 
-module _ (k code : ℕ) (vs : List ℕ) (h : k < 131) (c : known code ≡ true) (n : length (fieldsOf code) ≡ length vs) where
-  row-says :
-      (x y : ℕ) → allValid (fieldsOf code) vs ≡ true →
-      commandOf (x ∷ y ∷ 87 ∷ 78 ∷ (placeField k ++ printFields (codeKind ∷ fieldsOf code) (code ∷ vs)))
-      ≡ Store (addressAt k) (cellOf code (sets (replicate 6 0) 0 vs))
-  unfolding onSent sentFields choose
-  row-says x y v =
-      let pre = x ∷ y ∷ 87 ∷ 78 ∷ placeField k in
-      let ks = fieldsOf code in
-      let p = printFields (codeKind ∷ []) (code ∷ []) in
-      store-sent x y k (printFields (codeKind ∷ ks) (code ∷ vs)) h (ends-print (codeKind ∷ ks) (code ∷ vs))
-      ∙ ap (onSent (addressAt k))
-      (ap (λ (l : List ℕ). sentCell (pre ++ l) (length pre)) (print-first codeKind code ks vs)
-      ∙ code-sent code (printFields ks vs) pre c (ends-print ks vs)
-      ∙ ap (sentFields code) (all-back ks vs (pre ++ p) (formats-good code) v n))
+row-says :
+    (k code : ℕ) (vs : List ℕ) → k < 131 → known code ≡ true → length (fieldsOf code) ≡ length vs → (x y : ℕ) → allValid (fieldsOf code) vs ≡ true →
+    commandOf (x ∷ y ∷ 87 ∷ 78 ∷ (placeField k ++ printFields (codeKind ∷ fieldsOf code) (code ∷ vs)))
+    ≡ Store (addressAt k) (cellOf code (sets (replicate 6 0) 0 vs))
+unfolding onSent sentFields choose
+row-says k code vs h c n x y v =
+    let pre = x ∷ y ∷ 87 ∷ 78 ∷ placeField k in
+    let ks = fieldsOf code in
+    let p = printFields (codeKind ∷ []) (code ∷ []) in
+    store-sent x y k (printFields (codeKind ∷ ks) (code ∷ vs)) h (ends-print (codeKind ∷ ks) (code ∷ vs))
+    ∙ ap (onSent (addressAt k))
+    (ap (λ (l : List ℕ). sentCell (pre ++ l) (length pre)) (print-first codeKind code ks vs)
+    ∙ code-sent code (printFields ks vs) pre c (ends-print ks vs)
+    ∙ ap (sentFields code) (all-back ks vs (pre ++ p) (formats-good code) v n))
 
-  length-row : length (placeField k ++ printFields (codeKind ∷ fieldsOf code) (code ∷ vs)) ≤ 59
-  unfolding mostAll most every both
-  length-row =
-      let ks = codeKind ∷ fieldsOf code in
-      omega (
-        arith,
-        length-append (placeField k) (printFields ks (code ∷ vs)),
-        fields-most (cell ∷ []) ((100 + k) ∷ []),
-        fields-most ks (code ∷ vs),
-        leb-true (mostAll (fieldsOf code)) 26 (fields-by (λ (ks : List Kind). leb (mostAll ks) 26) code refl refl),
-      )
+length-row : (k code : ℕ) (vs : List ℕ) → length (placeField k ++ printFields (codeKind ∷ fieldsOf code) (code ∷ vs)) ≤ 59
+unfolding mostAll most every both
+length-row k code vs =
+    let ks = codeKind ∷ fieldsOf code in
+    omega (
+      arith,
+      length-append (placeField k) (printFields ks (code ∷ vs)),
+      fields-most (cell ∷ []) ((100 + k) ∷ []),
+      fields-most ks (code ∷ vs),
+      leb-true (mostAll (fieldsOf code)) 26 (fields-by (λ (ks : List Kind). leb (mostAll ks) 26) code refl refl),
+    )
 
-  pub row-accepted :
-      (m : Machine) (buffer : List ℕ) → Good m → idle (m .state) ≡ true → allValid (fieldsOf code) vs ≡ true → 64 ≤ length buffer →
-      Accepted (storing m k (printFields (codeKind ∷ fieldsOf code) (code ∷ vs))) buffer m
-  unfolding isCode codeIn pairOf bytes look carriedOut answerAt isStart
-  row-accepted m buffer g i v l =
-      let t = placeField k ++ printFields (codeKind ∷ fieldsOf code) (code ∷ vs) in
-      record {
-        code = ap (λ (s : List ℕ). isCode "WN" (codeIn s)) (body-store (own m) t);
-        yes = ap (λ (o : Outcome). o .answer) (apply-string (answerOf (ownAddress m) "WN" t) buffer m g (le-ltb (length buffer) 64 l))
-            ∙ ap (λ (b : List ℕ). told b m .answer) (string-store (own m) t)
-            ∙ ap (λ (o : Heard). o .answer) (told-own (87 ∷ 78 ∷ t) m (own-small m g) i (omega (arith, length-row)))
-            ∙ ap (λ (o : Command). carriedOut (allowed o (m .state)) (ownAddress m) m .answer) (row-says _ _ v)
-            ∙ ap (λ (o : Command). carriedOut o (ownAddress m) m .answer) (other-allowed _ (m .state) refl);
-      }
+pub row-accepted :
+    (k code : ℕ) (vs : List ℕ) → k < 131 → known code ≡ true → length (fieldsOf code) ≡ length vs →
+    (m : Machine) (buffer : List ℕ) → Good m → idle (m .state) ≡ true → allValid (fieldsOf code) vs ≡ true → 64 ≤ length buffer →
+    Accepted (storing m k (printFields (codeKind ∷ fieldsOf code) (code ∷ vs))) buffer m
+unfolding isCode codeIn pairOf bytes look carriedOut answerAt isStart
+row-accepted k code vs h c n m buffer g i v l =
+    let t = placeField k ++ printFields (codeKind ∷ fieldsOf code) (code ∷ vs) in
+    record {
+      code = ap (λ (s : List ℕ). isCode "WN" (codeIn s)) (body-store (own m) t);
+      yes = ap (λ (o : Outcome). o .answer) (apply-string (answerOf (ownAddress m) "WN" t) buffer m g (le-ltb (length buffer) 64 l))
+          ∙ ap (λ (b : List ℕ). told b m .answer) (string-store (own m) t)
+          ∙ ap (λ (o : Heard). o .answer) (told-own (87 ∷ 78 ∷ t) m (own-small m g) i (omega (arith, length-row k code vs)))
+          ∙ ap (λ (o : Command). carriedOut (allowed o (m .state)) (ownAddress m) m .answer) (row-says k code vs h c n _ _ v)
+          ∙ ap (λ (o : Command). carriedOut o (ownAddress m) m .answer) (other-allowed _ (m .state) refl);
+    }

@@ -36,7 +36,7 @@ unfolding
     writes.withValue writes.fieldOf writes.withOutput writes.namedOutput writes.outputOf writes.valueOr0 writes.addressOf writes.isCell
     writes.isInteger writes.integerBefore writes.areIntegers writes.integersOf writes.codeOf writes.fieldCount writes.takesCount writes.cellOf
     writes.filled writes.cellNumbers writes.namedField writes.writeOf writes.numbersOf calls.formIn calls.formOf calls.wordCount
-    calls.onNumber calls.withBuffer calls.stringWith calls.stringOf calls.withImageBuffer calls.saveWith calls.saveOf calls.loadWith calls.loadOf
+    calls.onNumber calls.bufferOf calls.onBuffer calls.stringWith calls.stringOf calls.saveOf calls.loadWith calls.loadOf
     calls.formed calls.counted calls.isComment calls.firstLetter calls.ofLetter calls.callOf calls.formedText calls.countedText calls.textAfter calls.numbersAfter
 computing = tt
 

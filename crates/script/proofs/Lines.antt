@@ -1,4 +1,4 @@
--- A line by its tests: a string, a buffer or an image by its words, a form by how many words it asks, a line by its letter.
+-- A line by its tests: a string or an image by its words, a form by how many words it asks, a line by its letter.
 -- Assumes nothing.
 use Prim.Native.Nat.{ℕ}
 use native.Mathlib.Omega.{arith}
@@ -11,17 +11,16 @@ use borrow.Author.Tests.{eq-eqb, ne-eqb}
 use Rattle.laws.specs.Tests.{choose}
 use Rattle.laws.specs.Text.{bytes}
 use Rattle.laws.proofs.Tests.{choose-by}
-use Rattle.decimal.specs.declared.parse.Number.the-variants as number
 use Rattle.script.specs.Words.{wordsOf}
 use Rattle.script.specs.Numbers.{unsignedOf}
 use Rattle.script.specs.Hex.{decodedOf}
 use Rattle.script.specs.Writes.{writeOf, numbersOf}
-use Rattle.script.specs.Calls.{Form, formIn, formOf, wordCount, onNumber, withBuffer, stringWith, stringOf, formed, counted}
-use Rattle.script.specs.Calls.{withImageBuffer, saveWith, saveOf, loadWith, loadOf}
+use Rattle.script.specs.Calls.{Form, formIn, formOf, wordCount, bufferOf, onBuffer, stringWith, stringOf, formed, counted}
+use Rattle.script.specs.Calls.{loadWith, loadOf}
 use Rattle.script.specs.Calls.{formedText, countedText, isComment, firstLetter, ofLetter, callOf, textAfter, numbersAfter}
 use Rattle.script.specs.declared.hex.Decoded.the-variants as decoded
-use Rattle.script.specs.declared.call.Complaint.the-variants.{NotACall, MissingOrExtraWord, NotANumber, NotHex, NotImageHex}
-use Rattle.script.specs.declared.call.Call.the-variants.{Comment, Malformed, Load}
+use Rattle.script.specs.declared.call.Complaint.the-variants.{NotACall, MissingOrExtraWord, NotHex, NotImageHex}
+use Rattle.script.specs.declared.call.Call.the-variants.{Comment, Malformed, Tell, Load}
 use Rattle.script.proofs.Forms.{isImage, text-kept}
 
 -- ---- a string
@@ -31,39 +30,13 @@ module _ (ws : List (List ℕ)) where
   unfolding stringOf stringWith
   string-hex e = simp e
 
-  pub string-size :
-      {n : ℕ} → decodedOf 256 (getD ws 1 []) ≡ decoded.Bytes n → unsignedOf (getD ws 2 []) ≡ number.Bad → Malformed NotANumber ≡ stringOf ws
+  pub string-buffer :
+      {n : ℕ} → decodedOf 256 (getD ws 1 []) ≡ decoded.Bytes n →
+      onBuffer (Tell n) (bufferOf 256 (unsignedOf (getD ws 2 [])) (unsignedOf (getD ws 3 []))) ≡ stringOf ws
   unfolding stringOf stringWith
-  string-size e s = simp (e, s)
+  string-buffer e = simp e
 
-  pub string-fill :
-      {n size : ℕ} → decodedOf 256 (getD ws 1 []) ≡ decoded.Bytes n → unsignedOf (getD ws 2 []) ≡ number.Value size →
-      unsignedOf (getD ws 3 []) ≡ number.Bad → Malformed NotANumber ≡ stringOf ws
-  unfolding stringOf stringWith onNumber
-  string-fill e s f = simp (e, s, f)
-
-  pub string-good :
-      {n size fill : ℕ} → decodedOf 256 (getD ws 1 []) ≡ decoded.Bytes n → unsignedOf (getD ws 2 []) ≡ number.Value size →
-      unsignedOf (getD ws 3 []) ≡ number.Value fill → withBuffer n size fill ≡ stringOf ws
-  unfolding stringOf stringWith onNumber
-  string-good e s f = simp (e, s, f)
-
-  -- ---- a buffer for an image, and an image
-
-  pub save-size : unsignedOf (getD ws 1 []) ≡ number.Bad → Malformed NotANumber ≡ saveOf ws
-  unfolding saveOf saveWith
-  save-size s = simp s
-
-  pub save-fill :
-      {size : ℕ} → unsignedOf (getD ws 1 []) ≡ number.Value size → unsignedOf (getD ws 2 []) ≡ number.Bad → Malformed NotANumber ≡ saveOf ws
-  unfolding saveOf saveWith onNumber
-  save-fill s f = simp (s, f)
-
-  pub save-good :
-      {size fill : ℕ} → unsignedOf (getD ws 1 []) ≡ number.Value size → unsignedOf (getD ws 2 []) ≡ number.Value fill →
-      withImageBuffer size fill ≡ saveOf ws
-  unfolding saveOf saveWith onNumber
-  save-good s f = simp (s, f)
+  -- ---- an image
 
   pub load-hex : decodedOf 2048 (getD ws 1 []) ≡ decoded.Bad → Malformed NotImageHex ≡ loadOf ws
   unfolding loadOf loadWith

@@ -16,6 +16,8 @@ use Rattle.script.specs.Hex.{decodedOf, textOf}
 use Rattle.script.specs.Writes.{writeOf, numbersOf}
 use Rattle.script.specs.declared.hex.Decoded.{Decoded}
 use Rattle.script.specs.declared.hex.Decoded.the-variants as decoded
+use Rattle.script.specs.declared.parse.Buffer.{Buffer}
+use Rattle.script.specs.declared.parse.Buffer.the-variants as buffer
 use Rattle.script.specs.declared.call.Event.the-variants.{Inputs, Millisecond, Step, AtSpeed, Halted}
 use Rattle.script.specs.declared.call.Look.the-variants.{Order, Rounding, Reading}
 use Rattle.script.specs.declared.call.Complaint.the-variants.{NotACall, MissingOrExtraWord, NotANumber, NumberTooLarge, NotHex, NotImageHex}
@@ -79,32 +81,29 @@ unfoldable pub onNumber : (ℕ → Call) → Number → Call
 onNumber call (number.Value v) = call v
 onNumber call number.Bad = Malformed NotANumber
 
--- "an answer buffer of n bytes (0 to 256), each of value b"
-unfoldable pub withBuffer : ℕ → ℕ → ℕ → Call
-withBuffer length size fill =
-    choose (leb size 256) (choose (leb fill 255) (Tell length size fill) (Malformed NumberTooLarge)) (Malformed NumberTooLarge)
+-- "a buffer of n bytes .., each of value b": the first word that is wrong is complained of
+unfoldable pub bufferOf : ℕ → Number → Number → Buffer
+bufferOf most number.Bad fill = buffer.Wrong NotANumber
+bufferOf most (number.Value size) number.Bad = buffer.Wrong NotANumber
+bufferOf most (number.Value size) (number.Value fill) =
+    choose (leb size most) (choose (leb fill 255) (buffer.Of size fill) (buffer.Wrong NumberTooLarge)) (buffer.Wrong NumberTooLarge)
 
--- "`S hex n b`": the first word that is wrong is complained of
-unfoldable pub stringWith : Decoded → Number → Number → Call
-stringWith decoded.Bad size fill = Malformed NotHex
-stringWith (decoded.Bytes n) number.Bad fill = Malformed NotANumber
-stringWith (decoded.Bytes n) (number.Value size) fill = onNumber (withBuffer n size) fill
+unfoldable pub onBuffer : (ℕ → ℕ → Call) → Buffer → Call
+onBuffer call (buffer.Of size fill) = call size fill
+onBuffer call (buffer.Wrong complaint) = Malformed complaint
+
+-- "`S hex n b`": "an answer buffer of n bytes (0 to 256)"
+unfoldable pub stringWith : Decoded → Buffer → Call
+stringWith decoded.Bad b = Malformed NotHex
+stringWith (decoded.Bytes n) b = onBuffer (Tell n) b
 
 unfoldable pub stringOf : List (List ℕ) → Call
-stringOf words = stringWith (decodedOf 256 (getD words 1 [])) (unsignedOf (getD words 2 [])) (unsignedOf (getD words 3 []))
+stringOf words =
+    stringWith (decodedOf 256 (getD words 1 [])) (bufferOf 256 (unsignedOf (getD words 2 [])) (unsignedOf (getD words 3 [])))
 
--- "a buffer of n bytes (0 to 2048), each of value b"
-unfoldable pub withImageBuffer : ℕ → ℕ → Call
-withImageBuffer size fill =
-    choose (leb size 2048) (choose (leb fill 255) (Save size fill) (Malformed NumberTooLarge)) (Malformed NumberTooLarge)
-
--- "`O n b`"
-unfoldable pub saveWith : Number → Number → Call
-saveWith number.Bad fill = Malformed NotANumber
-saveWith (number.Value size) fill = onNumber (withImageBuffer size) fill
-
+-- "`O n b`": "a buffer of n bytes (0 to 2048)"
 unfoldable pub saveOf : List (List ℕ) → Call
-saveOf words = saveWith (unsignedOf (getD words 1 [])) (unsignedOf (getD words 2 []))
+saveOf words = onBuffer Save (bufferOf 2048 (unsignedOf (getD words 1 [])) (unsignedOf (getD words 2 [])))
 
 -- "`L hex`"
 unfoldable pub loadWith : Decoded → Call

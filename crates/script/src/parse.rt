@@ -5,8 +5,9 @@ ghost use lib.ListN.{length, getD};
 ghost use Rattle.script.specs.Words.{wordsOf};
 ghost use Rattle.script.specs.Hex.{textOf};
 ghost use Rattle.script.specs.Calls.{formOf, wordCount, aloneCall, numberCall, onNumber};
-ghost use Rattle.script.specs.Calls.{withBuffer, stringOf, withImageBuffer, saveOf, loadOf};
-ghost use Rattle.script.specs.Calls.{counted, countedText};
+ghost use Rattle.script.specs.Calls.{bufferOf, onBuffer, stringOf, saveOf, loadOf};
+ghost use Rattle.script.specs.declared.call.Call.the-variants.{Tell, Save};
+ghost use Rattle.script.specs.Calls.{formed, formedText, counted, countedText};
 ghost use Rattle.script.specs.Calls.{isComment, callOf, textAfter, numbersAfter};
 use crate::call::Call;
 use crate::call::Complaint;
@@ -73,19 +74,48 @@ fn with_number(letter: u8, number: Number) -> Call
     }
 }
 
-fn with_buffer(length: usize, size: u32, fill: u32) -> Call
-    ensures { λ r. ⌜ r ≡ withBuffer length size fill ⌝ }
+// A buffer to be lent, so many bytes of one value; or what is wrong with its two words.
+enum Buffer {
+    Of { size: usize, fill: u8 },
+    Wrong(Complaint),
+}
+
+fn buffer_of(first: Number, second: Number, most: u32) -> Buffer
+    ensures { λ r. ⌜ r ≡ bufferOf most first second ⌝ }
 {
-    if 256 < size {
-        return Call::Malformed(Complaint::NumberTooLarge);
+    let Number::Value(size) = first else {
+        return Buffer::Wrong(Complaint::NotANumber);
+    };
+    let Number::Value(fill) = second else {
+        return Buffer::Wrong(Complaint::NotANumber);
+    };
+    if most < size {
+        return Buffer::Wrong(Complaint::NumberTooLarge);
     }
     if 255 < fill {
-        return Call::Malformed(Complaint::NumberTooLarge);
+        return Buffer::Wrong(Complaint::NumberTooLarge);
     }
-    Call::Tell {
-        length,
+    Buffer::Of {
         size: size as usize,
         fill: fill as u8,
+    }
+}
+
+fn tell_with(length: usize, buffer: Buffer) -> Call
+    ensures { λ r. ⌜ r ≡ onBuffer (Tell length) buffer ⌝ }
+{
+    match buffer {
+        Buffer::Of { size, fill } => Call::Tell { length, size, fill },
+        Buffer::Wrong(complaint) => Call::Malformed(complaint),
+    }
+}
+
+fn save_with(buffer: Buffer) -> Call
+    ensures { λ r. ⌜ r ≡ onBuffer Save buffer ⌝ }
+{
+    match buffer {
+        Buffer::Of { size, fill } => Call::Save { size, fill },
+        Buffer::Wrong(complaint) => Call::Malformed(complaint),
     }
 }
 
@@ -98,44 +128,17 @@ fn string(line: &[u8], text: &mut [u8; 2048]) -> Call
     let Decoded::Bytes(length) = decoded else {
         return Call::Malformed(Complaint::NotHex);
     };
-    let second = numbers::unsigned(words::part(line, 2, b' '));
-    let Number::Value(size) = second else {
-        return Call::Malformed(Complaint::NotANumber);
-    };
-    let third = numbers::unsigned(words::part(line, 3, b' '));
-    let Number::Value(fill) = third else {
-        return Call::Malformed(Complaint::NotANumber);
-    };
-    with_buffer(length, size, fill)
-}
-
-fn with_image_buffer(size: u32, fill: u32) -> Call
-    ensures { λ r. ⌜ r ≡ withImageBuffer size fill ⌝ }
-{
-    if 2048 < size {
-        return Call::Malformed(Complaint::NumberTooLarge);
-    }
-    if 255 < fill {
-        return Call::Malformed(Complaint::NumberTooLarge);
-    }
-    Call::Save {
-        size: size as usize,
-        fill: fill as u8,
-    }
+    let first = numbers::unsigned(words::part(line, 2, b' '));
+    let second = numbers::unsigned(words::part(line, 3, b' '));
+    tell_with(length, buffer_of(first, second, 256))
 }
 
 fn save(line: &[u8]) -> Call
     ensures { λ r. ⌜ r ≡ saveOf (wordsOf (now (line .entry))) ⌝ }
 {
     let first = numbers::unsigned(words::part(line, 1, b' '));
-    let Number::Value(size) = first else {
-        return Call::Malformed(Complaint::NotANumber);
-    };
     let second = numbers::unsigned(words::part(line, 2, b' '));
-    let Number::Value(fill) = second else {
-        return Call::Malformed(Complaint::NotANumber);
-    };
-    with_image_buffer(size, fill)
+    save_with(buffer_of(first, second, 2048))
 }
 
 fn load(line: &[u8], text: &mut [u8; 2048]) -> Call
@@ -148,6 +151,29 @@ fn load(line: &[u8], text: &mut [u8; 2048]) -> Call
         return Call::Malformed(Complaint::NotImageHex);
     };
     Call::Load { length }
+}
+
+// The call of a line that has as many words as its letter asks.
+fn of_form(letter: u8, wanted: usize, line: &[u8], text: &mut [u8; 2048]) -> Call
+    requires { ⌜ wanted ≡ wordCount (formOf letter) ⌝ }
+    requires { ⌜ ¬ (wanted ≡ 0) ⌝ }
+    ensures { λ r. ⌜ r ≡ formed (formOf letter) (wordsOf (now (line .entry))) ⌝ }
+    ensures text { λ r. ⌜ now (text .exit) ≡
+        formedText (formOf letter) (wordsOf (now (line .entry))) (now (text .entry)) ⌝ }
+{
+    if wanted == 1 {
+        return plain(letter);
+    }
+    if letter == b'L' {
+        return load(line, text);
+    }
+    if wanted == 2 {
+        return with_number(letter, numbers::unsigned(words::part(line, 1, b' ')));
+    }
+    if wanted == 3 {
+        return save(line);
+    }
+    string(line, text)
 }
 
 fn of_letter(letter: u8, line: &[u8], count: usize, text: &mut [u8; 2048]) -> Call
@@ -163,19 +189,7 @@ fn of_letter(letter: u8, line: &[u8], count: usize, text: &mut [u8; 2048]) -> Ca
     if count != wanted {
         return Call::Malformed(Complaint::MissingOrExtraWord);
     }
-    if wanted == 1 {
-        return plain(letter);
-    }
-    if letter == b'L' {
-        return load(line, text);
-    }
-    if wanted == 2 {
-        return with_number(letter, numbers::unsigned(words::part(line, 1, b' ')));
-    }
-    if wanted == 3 {
-        return save(line);
-    }
-    string(line, text)
+    of_form(letter, wanted, line, text)
 }
 
 // Whether a line is a comment.
