@@ -42,9 +42,13 @@ const PROGRAMS: [(usize, &str); 7] = [
     (120, "01,10,20,+8388607,x4,220"),
 ];
 
-const NAMES: [&str; 15] = [
+/// What the cells of a walk over the whole memory hold, in turn.
+const WALK: [&str; 5] =
+    ["21,2200,-9,x4", "65,400", "11,30,+8388607,x1", "58,F3,1", "01,10,20,+5000,x4"];
+
+const NAMES: [&str; 16] = [
     "wn", "qm", "qa", "inputs", "delay", "cell", "step", "refused", "halted", "order", "wait",
-    "long", "cells", "save", "load",
+    "long", "cells", "save", "load", "totals",
 ];
 
 /// The sum that a benchmark writes, or all of them one after the other. `None` where there is no such benchmark.
@@ -66,6 +70,7 @@ pub fn bench(name: &str, count: u32) -> Option<u32> {
         "cells" => cells(started(idle)),
         "save" => saves(started(idle), count),
         "load" => loads(started(idle), count),
+        "totals" => totals(walking(), count),
         "all" => NAMES.iter().try_fold(0, |sum, name| Some(added(sum, bench(name, count)?)))?,
         _ => return None,
     })
@@ -76,12 +81,30 @@ fn started(text: &str) -> Drive {
     let mut drive = Drive::fresh(0).expect("01 takes address 0");
     let mixed = (0..131).map(|place| (place, MIXED[place * 7 % 20]));
     for (place, text) in mixed.chain(PROGRAMS) {
-        let fields: Vec<&[u8]> = text.split(',').map(str::as_bytes).collect();
-        drive.cells[place] = Cell::parse(&fields).expect("a cell of the benchmarks is sound");
+        drive.cells[place] = cell(text);
     }
     let _ = drive.string(text.as_bytes(), &mut [0; 64]);
     let _ = drive.millisecond();
     drive
+}
+
+/// A fresh drive whose 131 cells are one walk from 100 to 000: each goes on 37 places further round,
+/// and the one that would lead back to 100 is the last.
+fn walking() -> Drive {
+    let mut drive = Drive::fresh(0).expect("01 takes address 0");
+    for (place, held) in drive.cells.iter_mut().enumerate() {
+        let next = match (place + 37) % 131 {
+            0 => 0,
+            further => 100 + further,
+        };
+        *held = cell(&format!("{},{next:03}", WALK[place % 5]));
+    }
+    drive
+}
+
+fn cell(text: &str) -> Cell {
+    let fields: Vec<&[u8]> = text.split(',').map(str::as_bytes).collect();
+    Cell::parse(&fields).expect("a cell of the benchmarks is sound")
 }
 
 /// A string, whose eighth byte counts: of a WN or a QM that goes over ten cells.
@@ -180,6 +203,20 @@ fn loads(drive: Drive, count: u32) -> u32 {
             |loaded: &Drive| u32::from(loaded.presets.current) + u32::from(loaded.cells[0].next);
         sum = added(sum, loaded.as_ref().map_or(0, seen));
         let _ = black_box(loaded);
+    }
+    sum
+}
+
+/// Totals of the whole memory, IN another each time. Of the net steps 32 bits are seen.
+fn totals(mut drive: Drive, count: u32) -> u32 {
+    let mut sum = 0;
+    for k in 0..count {
+        drive.presets.current = (k % 4) as u8;
+        sum = match drive.totals(100) {
+            Ok(totals) => added(added(sum, totals.net as u32), totals.delay),
+            Err(refusal) => added(sum, refusal.into()),
+        };
+        black_box(&mut drive);
     }
     sum
 }

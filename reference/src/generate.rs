@@ -11,9 +11,11 @@ mod events;
 mod fields;
 mod images;
 pub mod layout;
-mod random;
+pub mod random;
 mod raw;
 mod strings;
+mod totals;
+pub mod walks;
 
 use crate::memory::Drive;
 use random::Random;
@@ -44,7 +46,7 @@ struct Generator {
 /// One kind of call, or a short run of calls that belong together.
 type Kind = fn(&mut Generator);
 
-const WHILE_IDLE: [(usize, Kind); 29] = [
+const WHILE_IDLE: [(usize, Kind); 31] = [
     (30, Generator::program),
     (9, Generator::looped_program),
     (6, Generator::jump_program),
@@ -74,9 +76,11 @@ const WHILE_IDLE: [(usize, Kind); 29] = [
     (1, Generator::fresh),
     (12, Generator::save),
     (14, Generator::load),
+    (6, Generator::totals),
+    (8, Generator::walk),
 ];
 
-const WHILE_WAITING: [(usize, Kind); 15] = [
+const WHILE_WAITING: [(usize, Kind); 16] = [
     (50, Generator::milliseconds),
     (16, Generator::wait),
     (9, Generator::stop_string),
@@ -92,9 +96,10 @@ const WHILE_WAITING: [(usize, Kind); 15] = [
     (3, Generator::raw_write),
     (2, Generator::save),
     (1, Generator::load_mostly_damaged),
+    (4, Generator::totals),
 ];
 
-const WHILE_MOVING: [(usize, Kind); 15] = [
+const WHILE_MOVING: [(usize, Kind); 16] = [
     (60, Generator::right_report),
     (7, Generator::any_report),
     (16, Generator::stop_string),
@@ -110,10 +115,11 @@ const WHILE_MOVING: [(usize, Kind); 15] = [
     (6, Generator::raw_write),
     (2, Generator::save),
     (1, Generator::load_mostly_damaged),
+    (4, Generator::totals),
 ];
 
 /// Every operation once on a record that is unsound, and soon the way back.
-const WHILE_UNSOUND: [(usize, Kind); 14] = [
+const WHILE_UNSOUND: [(usize, Kind); 15] = [
     (14, Generator::mend),
     (2, Generator::fresh),
     (3, Generator::any_string),
@@ -128,6 +134,7 @@ const WHILE_UNSOUND: [(usize, Kind); 14] = [
     (1, Generator::raw_write),
     (2, Generator::save),
     (1, Generator::load_mostly_damaged),
+    (2, Generator::totals),
 ];
 
 impl Generator {

@@ -6,8 +6,8 @@
 //! (what a cell holds), `fields` (words and numbers as text), `program` (starting, milliseconds,
 //! taking a cell), `stops` (inputs words, the two stops), `board` (reports and orders), `wait`,
 //! `serial` (strings and answers), `reading` (the full reading), `image` (the memory image, written
-//! and read). Around the drive: `console`, `replay` with its `raw` writes, `generate` (random
-//! scripts) and `bench`.
+//! and read), `totals` (steps and milliseconds before a start). Around the drive: `console`, `replay`
+//! with its `raw` writes, `generate` (random scripts) and `bench`.
 
 pub mod bench;
 pub mod board;
@@ -24,4 +24,5 @@ pub mod reading;
 pub mod replay;
 pub mod serial;
 pub mod stops;
+pub mod totals;
 pub mod wait;

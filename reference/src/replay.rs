@@ -5,6 +5,7 @@ use crate::frequency::round_frequency;
 use crate::memory::Drive;
 use crate::raw::{self, unsigned};
 use crate::reading::reading;
+use crate::totals::Totals;
 use crate::wait::End;
 
 /// A script under way: its drive, once the first call has made one, and how many lines were read.
@@ -85,7 +86,8 @@ fn call(drive: &mut Drive, words: &[&str]) -> Result<Seen, String> {
         ["K", field @ ..] => call_raw(drive, raw::write(drive, field)?),
         ["O", size, fill] => call_image(drive, at_most(size, 2048)?, at_most(fill, 255)?),
         ["L", image] => Seen::of(Drive::load(&bytes(image, 2048)?).map(|loaded| *drive = loaded)),
-        ["F" | "S" | "I" | "M" | "P" | "A" | "H" | "W" | "B" | "R" | "Q" | "O" | "L", ..] => {
+        ["T", start] => Seen::of_answer(drive.totals(unsigned(start)?).map(print_totals)),
+        ["F" | "S" | "I" | "M" | "P" | "A" | "H" | "W" | "B" | "R" | "Q" | "O" | "L" | "T", ..] => {
             return Err(format!("{}: missing or extra word", words[0]));
         }
         _ => return Err(format!("not a call: {:?}", words.join(" "))),
@@ -165,6 +167,11 @@ fn order(drive: &Drive) -> String {
             format!("run:{sign},{hertz},{ramp},{remaining:+},{}", supply(current, cu, fc))
         }
     }
+}
+
+/// `net,ms`, the net steps signed.
+fn print_totals(totals: Totals) -> String {
+    format!("{:+},{}", totals.net, totals.delay)
 }
 
 /// O0 to O3, F0 to F7, FC, CU.

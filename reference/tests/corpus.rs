@@ -7,8 +7,11 @@ mod coverage;
 mod images;
 #[path = "common/scripts.rs"]
 mod scripts;
+#[path = "common/walks.rs"]
+mod walks;
 
-use scripts::{calls, Call};
+use scripts::{calls, walk, Call};
+use walks::by_texts;
 
 const SCRIPT: &str = include_str!("../../crates/replay/stdin");
 
@@ -64,4 +67,23 @@ fn images_are_written_and_read_in_every_state_and_refused() {
 #[test]
 fn every_field_of_an_image_is_at_its_ends_and_beyond_them() {
     coverage::image_fields(&corpus(), 1);
+}
+
+#[test]
+fn totals_are_asked_in_every_state_and_refused() {
+    coverage::totals(&corpus(), 1);
+}
+
+#[test]
+fn walks_of_every_kind_are_added_up() {
+    coverage::walks(&corpus(), 1);
+}
+
+#[test]
+fn totals_are_those_of_the_texts() {
+    walk(&corpus(), |moment| {
+        let Call::Totals(start) = *moment.call else { return };
+        let result = moment.seen.totals.ok_or(moment.seen.refusal.unwrap_or(0));
+        assert_eq!(result, by_texts(moment.before, start));
+    });
 }

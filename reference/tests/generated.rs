@@ -3,6 +3,8 @@
 
 #[path = "generated/alike.rs"]
 mod alike;
+#[path = "common/board.rs"]
+mod board;
 #[path = "common/coverage.rs"]
 mod coverage;
 #[path = "common/images.rs"]
@@ -13,6 +15,10 @@ mod kept;
 mod rebuild;
 #[path = "common/scripts.rs"]
 mod scripts;
+#[path = "generated/summed.rs"]
+mod summed;
+#[path = "common/walks.rs"]
+mod walks;
 
 use rebuild::rebuild;
 use reference::generate::script;
@@ -82,6 +88,16 @@ fn images_are_written_and_read_in_every_state_and_refused() {
 #[test]
 fn every_field_of_an_image_is_at_its_ends_and_beyond_them() {
     coverage::image_fields(generated(), 3);
+}
+
+#[test]
+fn totals_are_asked_in_every_state_and_refused() {
+    coverage::totals(generated(), 20);
+}
+
+#[test]
+fn walks_of_every_kind_are_added_up() {
+    coverage::walks(generated(), 5);
 }
 
 #[test]

@@ -100,13 +100,45 @@ fn images_have_their_observations() {
 }
 
 #[test]
+fn totals_have_their_observations() {
+    let (run, delay) = (s("00WN,100,11,05,+5,x4,101"), s("00WN,101,65,7,102"));
+    let (back, start) = (s("00WN,102,21,2200,-2,x1,000"), s("00PS,100"));
+    let calls = format!(
+        "{run}; {delay}; {back}; T 100; T 102; T 230; T 0; T 99; T 231; T 255; T 300; T 356; \
+         T 4294967295; T 0000000000100; K c102 0 100; T 100; K c102 62 100 0; T 100; {start}; M; T 101"
+    );
+    let stand = "stand:1,0,0 00000000000000";
+    let expected = [
+        format!("- +18,7 - - - {stand}"),
+        format!("- -2,0 - - - {stand}"),
+        format!("- +0,0 - - - {stand}"),
+        format!("11 - - - - {stand}"),
+        format!("11 - - - - {stand}"),
+        format!("11 - - - - {stand}"),
+        format!("11 - - - - {stand}"),
+        format!("11 - - - - {stand}"),
+        format!("11 - - - - {stand}"),
+        format!("11 - - - - {stand}"),
+        format!("- +18,7 - - - {stand}"),
+        format!("- sound - - - {stand}"),
+        format!("12 - - - - {stand}"),
+        format!("- sound - - - {stand}"),
+        format!("13 - - - - {stand}"),
+        format!("- 00Y\\x0d 463 - - {stand}"),
+        "- - - - - run:+,2000,0,+20,1,0,0 00000000000000".to_string(),
+        "13 - - - - run:+,2000,0,+20,1,0,0 00000000000000".to_string(),
+    ];
+    assert_eq!(seen(&calls)[3..], expected);
+}
+
+#[test]
 fn unsound_drive_refuses_2_and_keeps_its_outputs() {
-    let seen = seen("K out O1 1; K ad 48; M; I 0; P; A; H; W 0; B; Q; R 5");
+    let seen = seen("K out O1 1; K ad 48; M; I 0; P; A; H; W 0; B; Q; T 100; T 0; R 5");
     assert_eq!(seen[1], "- unsound - - - !2 01000000000000");
-    for line in &seen[2..10] {
+    for line in &seen[2..12] {
         assert_eq!(line, "2 - - - - !2 01000000000000");
     }
-    assert_eq!(seen[10], "- 5 - - - !2 01000000000000");
+    assert_eq!(seen[12], "- 5 - - - !2 01000000000000");
 }
 
 #[test]
@@ -586,6 +618,15 @@ L 00 00 => missing or extra word
 L 0 => hex
 L 0A => hex
 L  => hex
+T => missing or extra word
+T 100 0 => missing or extra word
+T  100 => missing or extra word
+T  => not a number
+T x => not a number
+T -1 => not a number
+T +100 => not a number
+T 4294967296 => not a number
+t 100 => not a call
 K => missing name
 K foo 1 => unknown name
 K AD 1 => unknown name

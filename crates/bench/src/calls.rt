@@ -7,6 +7,7 @@ use crate::sums::length_of;
 use crate::sums::loaded_seen;
 use crate::sums::order_seen;
 use crate::sums::seen;
+use crate::sums::totals_seen;
 use crate::sums::wait_seen;
 use drive::Drive;
 use drive::results::Done;
@@ -14,6 +15,8 @@ use image::reading::read;
 use image::writing::write;
 use lines::gathering::front;
 use observed::sums::Sum;
+use totals::along;
+use units::CellAddress;
 use units::Milliseconds;
 
 pub enum Event {
@@ -166,6 +169,20 @@ pub fn loads(drive: Drive, count: u32) -> u32 {
     while k < count {
         buffer[1] = (k % 4) as u8;
         sum = added(sum, loaded_seen(read(front(&buffer, length))));
+        k += 1;
+    }
+    sum
+}
+
+// IN counts, so that no drive is the one before it.
+pub fn totals(drive: Drive, count: u32) -> u32 {
+    let mut d = drive;
+    let mut sum: u32 = 0;
+    let mut k: u32 = 0;
+    while k < count {
+        let current = (k % 4) as u8;
+        d.machine.state.presets.current = current;
+        sum = totals_seen(sum, along(d, CellAddress(100)));
         k += 1;
     }
     sum

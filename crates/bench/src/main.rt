@@ -96,6 +96,13 @@ fn images(name: &[u8], count: u32) -> u32 {
     if check::same(name, b"load") {
         return calls::loads(idle(), count);
     }
+    totals(name, count)
+}
+
+fn totals(name: &[u8], count: u32) -> u32 {
+    if check::same(name, b"totals") {
+        return calls::totals(memory::walking(), count);
+    }
     0
 }
 
@@ -115,7 +122,8 @@ fn all(count: u32) -> u32 {
     sum = added(sum, others(b"long", count));
     sum = added(sum, others(b"cells", count));
     sum = added(sum, images(b"save", count));
-    added(sum, images(b"load", count))
+    sum = added(sum, images(b"load", count));
+    added(sum, totals(b"totals", count))
 }
 
 fn named(name: &[u8], count: u32) -> u32 {

@@ -8,6 +8,8 @@ use machine::Remaining;
 use machine::State;
 use machine::answers::BoardOrder;
 use std::num::wrapping_add_u32;
+use totals::results::Totals;
+use units::NetSteps;
 
 pub fn added(sum: u32, seen: u32) -> u32 {
     ((sum as u64 * 31 + seen as u64) % 1_000_003) as u32
@@ -100,4 +102,17 @@ pub fn loaded_seen(loaded: Loaded) -> u32 {
     let machine = loaded.drive.machine;
     let first = machine.cells[0];
     wrapping_add_u32(wide(machine.state.presets.current), wide(first.next.0))
+}
+
+fn low_bits(net: NetSteps) -> u32 {
+    let n = net.0;
+    (n & 0xffff_ffff) as u32
+}
+
+// 32 bits of the net steps, then the milliseconds of delays.
+pub fn totals_seen(sum: u32, totals: Totals) -> u32 {
+    match totals {
+        Totals::Given(sums) => added(added(sum, low_bits(sums.steps)), sums.delay.0),
+        Totals::Refused(refusal) => added(sum, refusal.number() as u32),
+    }
 }

@@ -24,7 +24,8 @@ unfolding digits
 length-digits zero n = refl
 length-digits (suc w) n = ap suc (length-digits w (n % 10 ^ w))
 
-widthFrom-holds : (f w n : ℕ) → n < 10 ^ (f + w) → n < 10 ^ widthFrom f w n
+-- a number that f + w digits hold is below the power of its width
+pub widthFrom-holds : (f w n : ℕ) → n < 10 ^ (f + w) → n < 10 ^ widthFrom f w n
 unfolding widthFrom
 widthFrom-holds zero w n h = subst (λ (k : ℕ). n < 10 ^ k) (omega arith) h
 widthFrom-holds (suc f) w n h =

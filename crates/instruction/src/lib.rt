@@ -5,6 +5,7 @@ use units::Milliseconds;
 use units::Position;
 use units::Steps;
 
+pub mod adding;
 pub mod code;
 pub mod numbers;
 pub mod run;

@@ -26,7 +26,8 @@ use Rattle.instruction.specs.Texts.{cellText}
 use Rattle.instruction.specs.declared.Cell.{Cell as Content}
 use Rattle.instruction.proofs.Values.{keeps-byte}
 use Rattle.instruction.proofs.Sending.{text-injective}
-use Rattle.machine.specs.Record.{cellAt, nullCell, idle, inputAt, inEE}
+use Rattle.machine.specs.Record.{cellAt, nullCell, idle, inputAt, inEE, withState}
+use Rattle.machine.specs.Starting.{started}
 use Rattle.machine.specs.Commands.{codeIn, isCode, onFields, onAll, commandBy, commandOf}
 use Rattle.machine.specs.Answers.{answerOf}
 use Rattle.machine.specs.Acting.{actedAt, cellsAfter, machineAfter}
@@ -79,20 +80,26 @@ start-allowed : (a : CellAddress) (s : State) → inputAt s inEE ≡ false → a
 unfolding allowed isStart both
 start-allowed a s e = choose-false _ _ _ e
 
--- 01: "makes BBB .. the present cell"
-start-present :
+-- 01: "clears the error and makes BBB .. the present cell"
+pub start-begins :
     (m : Machine) (k : ℕ) (buffer : List ℕ) → Good m → idle (m .state) ≡ true → inputAt (m .state) inEE ≡ false → k < 131 →
-    64 ≤ length buffer →
-    (let n = next (SendString (starting m k) buffer) m in present (n .cells) (n .state) ≡ cellAt (m .cells) (addressAt k))
-unfolding next present carriedOut machineAfter actedAt cellsAfter bytes
-start-present m k buffer g i ee h l =
-    ap (λ (o : Outcome). present (o .machine .cells) (o .machine .state))
-    (apply-string (starting m k) buffer m g (le-ltb (length buffer) 64 l))
-    ∙ ap (λ (o : Heard). present (o .machine .cells) (o .machine .state))
+    64 ≤ length buffer → next (SendString (starting m k) buffer) m ≡ withState m (started (m .state) (addressAt k))
+unfolding next carriedOut machineAfter actedAt cellsAfter bytes
+start-begins m k buffer g i ee h l =
+    ap (λ (o : Outcome). o .machine) (apply-string (starting m k) buffer m g (le-ltb (length buffer) 64 l))
+    ∙ ap (λ (o : Heard). o .machine)
     (ap (λ (b : List ℕ). told b m) (string-code "PS" (own m) (placeField k))
     ∙ told-own (80 ∷ 83 ∷ placeField k) m (own-small m g) i (omega (arith, length-place k))
     ∙ ap (λ (o : Command). carriedOut (allowed o (m .state)) (ownAddress m) m) (start-parsed _ _ k h)
     ∙ ap (λ (o : Command). carriedOut o (ownAddress m) m) (start-allowed (addressAt k) (m .state) ee))
+
+-- the cell there is the present one
+start-present :
+    (m : Machine) (k : ℕ) (buffer : List ℕ) → Good m → idle (m .state) ≡ true → inputAt (m .state) inEE ≡ false → k < 131 →
+    64 ≤ length buffer →
+    (let n = next (SendString (starting m k) buffer) m in present (n .cells) (n .state) ≡ cellAt (m .cells) (addressAt k))
+unfolding present
+start-present m k buffer g i ee h l = ap (λ (n : Machine). present (n .cells) (n .state)) (start-begins m k buffer g i ee h l)
 
 -- ---- equal cells
 

@@ -13,16 +13,16 @@
 -- changes a cell), Demand2Rows (which WN is answered Y), Demand2Frequency (the frequency of a 21 or 22), Demand2Settings (the other strings that store),
 -- Demand2: demand 2, the theorem.
 -- Images: ImagePresets (the presets as a row), Images (written and read, both ways), MemoryImages (what images keep, the theorem), ImageCases (worked images).
-mod Computing
+pub mod Computing
 mod Starred
 mod Delays
 mod Worked
-mod Tests
+pub mod Tests
 pub mod Cells
 pub mod Parts
 pub mod RemainingCounts
 pub mod Places
-mod Going
+pub mod Going
 mod Taking
 pub mod Milliseconds
 pub mod Stopping
@@ -51,7 +51,7 @@ mod Demand2Strings
 mod Demand2Rows
 mod Demand2Frequency
 mod Demand2Settings
-mod Demand2
+pub mod Demand2
 mod ImagePresets
 mod Images
 mod MemoryImages

@@ -15,6 +15,7 @@ use script::call::Call;
 use script::call::Event;
 use script::call::Look;
 use script::call::Write;
+use units::CellAddress;
 use units::DriveAddress;
 use units::Milliseconds;
 
@@ -24,6 +25,14 @@ fn address(number: u32) -> DriveAddress {
         return DriveAddress(255);
     }
     DriveAddress(number as u8)
+}
+
+// A cell above 255 is refused as 255 is.
+fn cell(number: u32) -> CellAddress {
+    if 255 < number {
+        return CellAddress(255);
+    }
+    CellAddress(number as u8)
 }
 
 // A word above 65535 is refused as 65535 is.
@@ -113,6 +122,7 @@ fn put_look(drive: Drive, look: Look, out: &mut Out, at: usize) -> usize {
         Look::Order => seen::put_order(out, at, drive.order()),
         Look::Rounding(number) => seen::put_rounded(out, at, frequency::round(number)),
         Look::Reading => reading::put_reading(drive, out, at),
+        Look::Totals(number) => seen::put_totals(out, at, totals::along(drive, cell(number))),
     }
 }
 

@@ -7,11 +7,13 @@ use image::results::Written;
 use lines::gathering::front;
 use lines::gathering::gather;
 use lines::gathering::gather_number;
+use observed::nets::gather_net;
 use observed::orders::gather_end;
 use observed::orders::gather_order;
 use observed::outputs::gather_outputs;
 use observed::shown::gather_shown;
 use observed::sums::Sum;
+use totals::results::Totals;
 
 // Where what is seen is gathered, before it is written.
 pub type Out = [u8; 65536];
@@ -116,6 +118,20 @@ pub fn put_sum(out: &mut [u8], at: usize, sum: Sum) -> usize {
     let c = gather(out, b, b":");
     let d = gather_number(out, c, sum.sum);
     gather(out, d, b" - - -")
+}
+
+// The net steps, and the milliseconds of delays.
+pub fn put_totals(out: &mut [u8], at: usize, totals: Totals) -> usize {
+    match totals {
+        Totals::Refused(refusal) => put_plain(out, at, refusal.number()),
+        Totals::Given(sums) => {
+            let a = gather(out, at, b"- ");
+            let b = gather_net(out, a, sums.steps);
+            let c = gather(out, b, b",");
+            let d = gather_number(out, c, sums.delay.0);
+            gather(out, d, b" - - -")
+        }
+    }
 }
 
 pub fn put_verdict(out: &mut [u8], at: usize, held: bool, sound: bool) -> usize {

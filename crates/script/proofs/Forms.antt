@@ -106,7 +106,7 @@ module _ (words : List (List ℕ)) where
 
 -- the letters of the table, and one that is none of them
 abbrev pub letters : List ℕ
-letters = 70 ∷ 83 ∷ 73 ∷ 77 ∷ 80 ∷ 65 ∷ 72 ∷ 87 ∷ 66 ∷ 82 ∷ 81 ∷ 79 ∷ 76 ∷ []
+letters = 70 ∷ 83 ∷ 73 ∷ 77 ∷ 80 ∷ 65 ∷ 72 ∷ 87 ∷ 66 ∷ 82 ∷ 81 ∷ 79 ∷ 76 ∷ 84 ∷ []
 
 pub words-other : (letter : ℕ) → Unequal letter letters → 0 ≡ wordCount (formOf letter)
 unfolding formOf formIn wordCount choose bytes
@@ -126,6 +126,7 @@ words-other letter n =
       m .1 .1 .1 .1 .0,
       m .1 .1 .1 .1 .1 .0,
       m .1 .1 .1 .1 .1 .1 .0,
+      m .1 .1 .1 .1 .1 .1 .1 .0,
     )
 
 -- a letter that is none of those alone that the code tells apart, and none of those with a number
@@ -143,16 +144,18 @@ alone-other letter m p a h b =
     (λ w. choose-by P (eqb letter 82) (λ x. refl)
     (λ x. choose-by P (eqb letter 81) (λ y. refl)
     (λ y. choose-by P (eqb letter 79) (λ z. refl)
-    (λ z. choose-by P (eqb letter 76) (λ a. refl) (λ a. refl)))))))))
+    (λ z. choose-by P (eqb letter 76) (λ a. refl)
+    (λ a. choose-by P (eqb letter 84) (λ b. refl) (λ b. refl))))))))))
 
 pub number-other :
-    (letter v : ℕ) → eqb letter 70 ≡ false → eqb letter 73 ≡ false → eqb letter 87 ≡ false → Looks (Rounding v) ≡ numberCall (formOf letter) v
+    (letter v : ℕ) → eqb letter 70 ≡ false → eqb letter 73 ≡ false → eqb letter 87 ≡ false → eqb letter 84 ≡ false →
+    Looks (Rounding v) ≡ numberCall (formOf letter) v
 unfolding formOf formIn numberCall choose bytes
-number-other letter v f i w =
+number-other letter v f i w t =
     let P : Form → Type 0 = λ f. Looks (Rounding v) ≡ numberCall f v in
-    simp (f, i, w)
-    (choose-by P (eqb letter 83) (λ t. refl)
-    (λ t. choose-by P (eqb letter 77) (λ u. refl)
+    simp (f, i, w, t)
+    (choose-by P (eqb letter 83) (λ s. refl)
+    (λ s. choose-by P (eqb letter 77) (λ u. refl)
     (λ u. choose-by P (eqb letter 80) (λ x. refl)
     (λ x. choose-by P (eqb letter 65) (λ y. refl)
     (λ y. choose-by P (eqb letter 72) (λ z. refl)
@@ -179,4 +182,5 @@ image-other letter l =
     (λ a. choose-by P (eqb letter 66) (λ b. refl)
     (λ b. choose-by P (eqb letter 82) (λ c. refl)
     (λ c. choose-by P (eqb letter 81) (λ d. refl)
-    (λ d. choose-by P (eqb letter 79) (λ e. refl) (λ e. refl)))))))))))))
+    (λ d. choose-by P (eqb letter 79) (λ e. refl)
+    (λ e. choose-by P (eqb letter 84) (λ f. refl) (λ f. refl))))))))))))))

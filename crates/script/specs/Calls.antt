@@ -19,7 +19,7 @@ use Rattle.script.specs.declared.hex.Decoded.the-variants as decoded
 use Rattle.script.specs.declared.parse.Buffer.{Buffer}
 use Rattle.script.specs.declared.parse.Buffer.the-variants as buffer
 use Rattle.script.specs.declared.call.Event.the-variants.{Inputs, Millisecond, Step, AtSpeed, Halted}
-use Rattle.script.specs.declared.call.Look.the-variants.{Order, Rounding, Reading}
+use Rattle.script.specs.declared.call.Look.the-variants.{Order, Rounding, Reading, Totals}
 use Rattle.script.specs.declared.call.Complaint.the-variants.{NotACall, MissingOrExtraWord, NotANumber, NumberTooLarge, NotHex, NotImageHex}
 use Rattle.script.specs.declared.call.Call.{Call}
 use Rattle.script.specs.declared.call.Call.the-variants.{Comment, Malformed, Fresh, Tell, Happens, Wait, Looks, Save, Load}
@@ -59,6 +59,7 @@ lines =
     line "Q" (Alone (Looks Reading)) ∷
     line "O" WithBuffer ∷
     line "L" WithImage ∷
+    line "T" (WithNumber (λ c. Looks (Totals c))) ∷
     []
 
 unfoldable pub formIn : List Line → ℕ → Form
@@ -113,7 +114,7 @@ loadWith (decoded.Bytes n) = Load n
 unfoldable pub loadOf : List (List ℕ) → Call
 loadOf words = loadWith (decodedOf 2048 (getD words 1 []))
 
--- the call of a form alone, and of one with a number; of any other form that of the last letter
+-- the call of a form alone, and of one with a number; of any other form that of Q, and of R
 unfoldable pub aloneCall : Form → Call
 aloneCall (Alone call) = call
 aloneCall (WithNumber call) = Looks Reading

@@ -27,6 +27,7 @@ pub enum Look {
     Order,
     Rounding(u32),
     Reading,
+    Totals(u32),
 }
 
 // A raw write.

@@ -43,6 +43,7 @@ fn words_of(letter: u8) -> usize
         b'Q' => 1,
         b'O' => 3,
         b'L' => 2,
+        b'T' => 2,
         _ => 0,
     }
 }
@@ -70,6 +71,7 @@ fn with_number(letter: u8, number: Number) -> Call
         b'F' => Call::Fresh(v),
         b'I' => Call::Happens(Event::Inputs(v)),
         b'W' => Call::Wait(v),
+        b'T' => Call::Looks(Look::Totals(v)),
         _ => Call::Looks(Look::Rounding(v)),
     }
 }

@@ -1,5 +1,5 @@
 // The drive's numbers, each a type of its own, so that one is never taken for another: addresses,
-// steps, milliseconds and the position; and the arithmetic of runs on them.
+// steps, sums of steps, milliseconds and the position; and the arithmetic of runs on them.
 ghost use Prim.Native.Nat.{_-_};
 ghost use mathlib.Core.Path.{_≡_};
 
@@ -43,6 +43,9 @@ impl CellAddress {
 
 // A count of steps, with the sign of its direction.
 pub struct Steps(pub i32);
+
+// A sum of steps of several runs, with its sign: more than 32 bits hold.
+pub struct NetSteps(pub i64);
 
 // A count of milliseconds.
 pub struct Milliseconds(pub u32);

@@ -227,15 +227,20 @@ impl Generator {
         }
     }
 
-    /// Starts a cell that holds something, one of the first 16 or any.
+    /// Starts a cell that holds something, or now and then any.
     pub fn start_again(&mut self) {
+        let cell = self.used_cell();
+        self.start(cell);
+    }
+
+    /// A cell that holds something, or now and then any.
+    pub fn used_cell(&mut self) -> u8 {
         let used: Vec<u8> = (100..=230).filter(|cell| self.is_used(*cell)).collect();
-        let cell = if used.is_empty() || self.random.once_in(20) {
+        if used.is_empty() || self.random.once_in(20) {
             self.any_cell()
         } else {
             self.random.pick(&used)
-        };
-        self.start(cell);
+        }
     }
 
     fn is_used(&self, cell: u8) -> bool {

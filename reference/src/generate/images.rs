@@ -60,7 +60,7 @@ impl Generator {
         self.load_bytes(&image);
     }
 
-    fn load_bytes(&mut self, image: &[u8]) {
+    pub fn load_bytes(&mut self, image: &[u8]) {
         let shown = if image.is_empty() { "-".to_string() } else { hex(image) };
         if self.write(&format!("L {shown}")) {
             if let Ok(drive) = Drive::load(image) {
@@ -69,12 +69,8 @@ impl Generator {
         }
     }
 
-    /// The image of the drive; nothing where it is unsound.
     fn own_image(&self) -> Vec<u8> {
-        let mut buffer = vec![0; 2_048];
-        let length = self.drive.image(&mut buffer).unwrap_or(0);
-        buffer.truncate(length);
-        buffer
+        image_of(&self.drive)
     }
 
     fn whole(&mut self) -> Vec<u8> {
@@ -236,6 +232,14 @@ impl Generator {
         }
         bytes
     }
+}
+
+/// The image of a drive; nothing where it is unsound.
+pub fn image_of(drive: &Drive) -> Vec<u8> {
+    let mut buffer = vec![0; 2_048];
+    let length = drive.image(&mut buffer).unwrap_or(0);
+    buffer.truncate(length);
+    buffer
 }
 
 fn joined(parts: &[Vec<Number>]) -> Vec<u8> {

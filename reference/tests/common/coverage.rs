@@ -1,12 +1,13 @@
 //! Scripts reach every phase of every code by every event, every refusal of every operation, both
-//! answers to every command and request, the rare happenings, and images with every field at its ends
-//! and beyond them, each at least so many times.
+//! answers to every command and request, the rare happenings, images with every field at its ends and
+//! beyond them, and totals of every kind of walk, each at least so many times.
 
 use crate::images::{judged, PRESETS};
 use crate::scripts::{walk, Call, Moment};
+use crate::walks::{walked, Ended, Walked, ALLOWED};
 use reference::generate::layout::{self, Field};
 use reference::instruction::Instruction;
-use reference::memory::{Drive, Phase, Remaining};
+use reference::memory::{Drive, Phase, Remaining, Resolution};
 use reference::raw;
 use reference::wait::End;
 use std::collections::BTreeMap;
@@ -218,6 +219,10 @@ pub fn refusals(scripts: &[Vec<Call>], least: usize) {
         "image 2",
         "image 9",
         "load 10",
+        "totals 2",
+        "totals 11",
+        "totals 12",
+        "totals 13",
     ];
     all_counted(&counts, &refusals.map(str::to_string), least);
 }
@@ -238,6 +243,7 @@ fn operation(call: &Call) -> &'static str {
         Call::Raw(_) => "raw",
         Call::Image { .. } => "image",
         Call::Load(_) => "load",
+        Call::Totals(_) => "totals",
     }
 }
 
@@ -465,22 +471,25 @@ pub fn happenings(scripts: &[Vec<Call>], least: usize) {
     all_counted(&counts, &HAPPENINGS.map(|(name, _)| name.to_string()), least);
 }
 
+/// The operation, the state of the drive, and `done` or the refusal.
+fn outcome(moment: &Moment) -> String {
+    let state = match moment.before {
+        drive if !drive.sound() => "unsound",
+        drive if drive.idle() => "idle",
+        drive if drive.moving() => "moving",
+        _ => "waiting",
+    };
+    let outcome = moment.seen.refusal.map_or("done".to_string(), |number| number.to_string());
+    format!("{} {state} {outcome}", operation(moment.call))
+}
+
 /// Drives that an image is asked of, and that one is loaded over.
 pub fn images(scripts: &[Vec<Call>], least: usize) {
     let mut counts = Counts::new();
     walk(scripts, |moment| {
-        let operation = operation(moment.call);
-        if operation != "image" && operation != "load" {
-            return;
+        if matches!(moment.call, Call::Image { .. } | Call::Load(_)) {
+            count(&mut counts, outcome(&moment));
         }
-        let state = match moment.before {
-            drive if !drive.sound() => "unsound",
-            drive if drive.idle() => "idle",
-            drive if drive.moving() => "moving",
-            _ => "waiting",
-        };
-        let outcome = moment.seen.refusal.map_or("done".to_string(), |number| number.to_string());
-        count(&mut counts, format!("{operation} {state} {outcome}"));
     });
     let sound = ["idle", "waiting", "moving"];
     let images = sound.map(|state| [format!("image {state} done"), format!("image {state} 9")]);
@@ -521,4 +530,170 @@ pub fn image_fields(scripts: &[Vec<Call>], least: usize) {
         (1..).zip(*fields).flat_map(move |(place, f)| image_keys(&format!("{code}.{place}"), *f))
     });
     all_counted(&counts, &faults.chain(presets).chain(fields).collect::<Vec<_>>(), least);
+}
+
+/// Drives that totals are asked of.
+pub fn totals(scripts: &[Vec<Call>], least: usize) {
+    let mut counts = Counts::new();
+    walk(scripts, |moment| {
+        if let Call::Totals(_) = moment.call {
+            count(&mut counts, outcome(&moment));
+        }
+    });
+    let outcomes = ["done", "11", "12", "13"];
+    let sound = ["idle", "waiting", "moving"];
+    let sound = sound.map(|state| outcomes.map(|outcome| format!("totals {state} {outcome}")));
+    let keys = sound.into_iter().flatten().chain(["totals unsound 2".to_string()]);
+    all_counted(&counts, &keys.collect::<Vec<_>>(), least);
+}
+
+/// A call for totals, and what is met from its start on where that is a cell of a sound drive.
+struct Asked<'a> {
+    drive: &'a Drive,
+    start: u32,
+    walked: Option<Walked>,
+}
+
+impl Asked<'_> {
+    fn from_a_cell(&self) -> bool {
+        (100..=230).contains(&self.start)
+    }
+
+    /// The walk, where it ends at 000.
+    fn done(&self) -> Option<&Walked> {
+        self.walked.as_ref().filter(|walked| walked.ended == Ended::At000)
+    }
+
+    fn cells(&self) -> usize {
+        self.done().map_or(0, |walked| walked.cells.len())
+    }
+
+    fn net(&self) -> i64 {
+        self.done().map_or(0, |walked| walked.steps().iter().sum())
+    }
+
+    /// Some cell moves the motor, in a walk that ends at 000.
+    fn moves(&self) -> bool {
+        self.done().is_some_and(|walked| walked.steps().iter().any(|steps| *steps != 0))
+    }
+
+    fn delays(&self) -> Vec<u32> {
+        self.done().map_or(vec![], Walked::delays)
+    }
+
+    /// How many cells are met before one again, and the place of that one.
+    fn round(&self) -> Option<(usize, usize)> {
+        let walked = self.walked.as_ref()?;
+        let Ended::MetTwice(again) = walked.ended else { return None };
+        let place = walked.cells.iter().position(|(address, _)| *address == again);
+        Some((walked.cells.len(), place.expect("a cell that was met")))
+    }
+
+    /// How many cells are met up to one of another code, and whether that one leads on.
+    fn other_code(&self) -> Option<(usize, bool)> {
+        let walked = self.walked.as_ref().filter(|walked| walked.ended == Ended::OtherCode)?;
+        let (_, fields) = walked.cells.last()?;
+        Some((walked.cells.len(), !matches!(fields.last()?.as_str(), "000" | "69")))
+    }
+
+    /// Runs before and behind a 60.
+    fn runs_around_a_60(&self) -> bool {
+        self.done().is_some_and(|walked| {
+            let moves = |steps: &[i64]| steps.iter().any(|steps| *steps != 0);
+            let steps = walked.steps();
+            let resets = walked.cells.iter().enumerate().filter(|(_, cell)| cell.1[0] == "60");
+            resets.map(|(at, _)| at).any(|at| moves(&steps[..at]) && moves(&steps[at..]))
+        })
+    }
+}
+
+/// What a call for totals can meet: its name, and how it is known.
+type Met = (&'static str, fn(&Asked) -> bool);
+
+const MET: [Met; 38] = [
+    ("an unsound drive, from a cell", |a| !a.drive.sound() && a.from_a_cell()),
+    ("an unsound drive, from no cell", |a| !a.drive.sound() && !a.from_a_cell()),
+    ("from 000", |a| a.start == 0 && a.drive.sound()),
+    ("from 99", |a| a.start == 99 && a.drive.sound()),
+    ("from 100", |a| a.start == 100 && a.drive.sound()),
+    ("from 230", |a| a.start == 230 && a.drive.sound()),
+    ("from 231", |a| a.start == 231 && a.drive.sound()),
+    ("from 255", |a| a.start == 255 && a.drive.sound()),
+    ("from 256", |a| a.start == 256 && a.drive.sound()),
+    ("from a cell in 8 bits", |a| (356..=486).contains(&a.start) && a.drive.sound()),
+    ("from a cell in 16 bits", |a| (65_636..=65_766).contains(&a.start) && a.drive.sound()),
+    ("from 4294967295", |a| a.start == u32::MAX && a.drive.sound()),
+    ("one cell", |a| a.cells() == 1),
+    ("2 to 9 cells", |a| (2..=9).contains(&a.cells())),
+    ("10 to 130 cells", |a| (10..=130).contains(&a.cells())),
+    ("131 cells", |a| a.cells() == 131),
+    ("a cell that leads to itself, met first", |a| a.round() == Some((1, 0))),
+    ("a cell that leads to itself, met later", |a| {
+        a.round().is_some_and(|(cells, place)| place > 0 && place == cells - 1)
+    }),
+    ("back to the start", |a| a.round().is_some_and(|(cells, place)| cells > 1 && place == 0)),
+    ("back to a cell between", |a| {
+        a.round().is_some_and(|(cells, place)| place > 0 && place < cells - 1)
+    }),
+    ("131 cells round", |a| a.round().is_some_and(|(cells, _)| cells == 131)),
+    ("another code at the start", |a| a.other_code().is_some_and(|(cells, _)| cells == 1)),
+    ("another code on the way", |a| {
+        a.other_code().is_some_and(|(cells, leads_on)| cells > 1 && leads_on)
+    }),
+    ("another code at the end", |a| {
+        a.other_code().is_some_and(|(cells, leads_on)| cells > 1 && !leads_on)
+    }),
+    ("another code far on", |a| a.other_code().is_some_and(|(cells, _)| cells >= 100)),
+    ("absolute mode", |a| a.moves() && a.drive.presets.absolute),
+    ("a record", |a| a.moves() && a.drive.suspended.cell != 0),
+    ("an error", |a| a.moves() && a.drive.fault.code != 0),
+    ("EE on", |a| a.moves() && a.drive.inputs.ee),
+    ("a start at the present cell", |a| a.start == a.drive.running.cell.into() && a.moves()),
+    ("net steps of more than 31 bits", |a| a.net() > 2_147_483_647),
+    ("net steps of more than 31 bits back", |a| a.net() < -2_147_483_648),
+    ("net steps of more than 32 bits", |a| a.net() > 4_294_967_295),
+    ("net steps of more than 32 bits back", |a| a.net() < -4_294_967_295),
+    ("runs there and back", |a| a.moves() && a.net() == 0),
+    ("runs before and behind a 60", |a| a.runs_around_a_60()),
+    ("a delay of 0", |a| a.delays().contains(&0)),
+    ("delays of more than 16 bits", |a| a.delays().iter().sum::<u32>() > 65_535),
+];
+
+/// Codes of a walk that ends at 000, and RS where it has an x4; or the code at which it is refused.
+fn codes_and_rs(asked: &Asked) -> Vec<String> {
+    let Some(walked) = &asked.walked else { return vec![] };
+    let fields = || walked.cells.iter().map(|(_, fields)| fields);
+    match walked.ended {
+        Ended::MetTwice(_) => vec![],
+        Ended::OtherCode => {
+            fields().last().map(|f| format!("13 at {}", f[0])).into_iter().collect()
+        }
+        Ended::At000 => {
+            let codes = ALLOWED.iter().filter(|code| fields().any(|f| f[0] == **code));
+            let x4 = fields().any(|f| f.iter().any(|field| field == "x4"));
+            let rs = x4.then(|| format!("x4 under {}", asked.drive.presets.resolution.name()));
+            codes.map(|code| format!("along {code}")).chain(rs).collect()
+        }
+    }
+}
+
+pub fn walks(scripts: &[Vec<Call>], least: usize) {
+    let mut counts = Counts::new();
+    walk(scripts, |moment| {
+        let Call::Totals(start) = *moment.call else { return };
+        let mut asked = Asked { drive: moment.before, start, walked: None };
+        if asked.drive.sound() && asked.from_a_cell() {
+            asked.walked = Some(walked(asked.drive, start as u8));
+        }
+        let met = MET.iter().filter(|(_, known)| known(&asked));
+        met.for_each(|(name, _)| count(&mut counts, name));
+        codes_and_rs(&asked).iter().for_each(|key| count(&mut counts, key));
+    });
+    let met = MET.iter().map(|(name, _)| name.to_string());
+    let codes = CODES.iter().map(|code| {
+        let sort = if ALLOWED.contains(code) { "along" } else { "13 at" };
+        format!("{sort} {code}")
+    });
+    let rs = Resolution::NAMES.iter().map(|name| format!("x4 under {name}"));
+    all_counted(&counts, &met.chain(codes).chain(rs).collect::<Vec<_>>(), least);
 }

@@ -4,14 +4,16 @@
 //! - `s TEXT` the string TEXT with byte 13 and a 64-byte buffer (`_` stands for a space),
 //! - `i NAMES` the inputs word with these inputs on, `i 0` with none,
 //! - `M`, `P`, `A`, `H` a millisecond, a step, at-speed, halted; `M 5` five of them,
-//! - `W b` a wait, `B` the board order, `F a` a fresh drive of another address.
+//! - `W b` a wait, `B` the board order, `T c` totals from a cell, `F a` a fresh drive of another
+//!   address.
 //!
 //! ` = SEEN` after a call says what must be seen of it: the answer without byte 13 or `silent`, the
-//! end and count of a wait, the order, or a refusal as `!5`. Without it a string must be answered
-//! Y, and another call not be refused.
+//! end and count of a wait, the order, totals as `+18,7`, or a refusal as `!5`. Without it a string
+//! must be answered Y, and another call not be refused.
 
 use reference::board::Order;
 use reference::memory::Drive;
+use reference::totals::Totals;
 use reference::wait::End;
 
 const INPUTS: [&str; 11] = ["I0", "I1", "I2", "PX", "S0", "S1", "S2", "S3", "ST", "ES", "EE"];
@@ -50,6 +52,7 @@ fn one_call(drive: &mut Drive, letter: &str, rest: &str) -> String {
         "H" => repeated(drive, rest, Drive::halted),
         "W" => waited(drive.wait(rest.parse().expect("a budget"))),
         "B" => order(drive),
+        "T" => totals(drive.totals(rest.parse().expect("a start"))),
         "F" => done(Drive::fresh(rest.parse().expect("an address")).map(|fresh| *drive = fresh)),
         _ => panic!("no call `{letter}`"),
     }
@@ -88,6 +91,13 @@ fn waited(result: Result<(End, u32), u8>) -> String {
         Ok((End::Idle, count)) => format!("idle {count}"),
         Ok((End::Moving, count)) => format!("moving {count}"),
         Ok((End::Spent, count)) => format!("spent {count}"),
+        Err(number) => format!("!{number}"),
+    }
+}
+
+fn totals(result: Result<Totals, u8>) -> String {
+    match result {
+        Ok(Totals { net, delay }) => format!("{net:+},{delay}"),
         Err(number) => format!("!{number}"),
     }
 }

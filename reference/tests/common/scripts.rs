@@ -3,6 +3,7 @@
 use reference::frequency::round_frequency;
 use reference::memory::Drive;
 use reference::raw;
+use reference::totals::Totals;
 use reference::wait::End;
 
 #[derive(Clone, Debug, PartialEq)]
@@ -21,6 +22,7 @@ pub enum Call {
     Raw(Vec<String>),
     Image { length: usize, fill: u8 },
     Load(Vec<u8>),
+    Totals(u32),
 }
 
 /// What one call showed. `answer` is its length, `buffer` the whole buffer afterwards, of a string
@@ -31,6 +33,7 @@ pub struct Seen {
     pub answer: Option<usize>,
     pub buffer: Vec<u8>,
     pub wait: Option<(End, u32)>,
+    pub totals: Option<Totals>,
 }
 
 /// One call of a script with the drive on both sides of it.
@@ -81,6 +84,7 @@ fn parse(line: &str) -> Call {
         "K" => Call::Raw(words[1..].iter().map(|word| word.to_string()).collect()),
         "O" => Call::Image { length: number(1) as usize, fill: words[2].parse().expect("a byte") },
         "L" => Call::Load(bytes(words[1])),
+        "T" => Call::Totals(number(1)),
         _ => panic!("no call in `{line}`"),
     }
 }
@@ -108,6 +112,7 @@ pub fn carry_out(drive: &mut Drive, call: &Call) -> Seen {
         Call::Raw(words) => write_raw(drive, words),
         Call::Image { length, fill } => save(drive, *length, *fill),
         Call::Load(bytes) => plain(Drive::load(bytes).map(|loaded| *drive = loaded)),
+        Call::Totals(start) => summed(drive.totals(*start)),
     }
 }
 
@@ -118,17 +123,21 @@ fn plain(result: Result<(), u8>) -> Seen {
 fn say(drive: &mut Drive, bytes: &[u8], length: usize, fill: u8) -> Seen {
     let mut buffer = vec![fill; length];
     let result = drive.string(bytes, &mut buffer);
-    Seen { refusal: result.err(), answer: result.ok().flatten(), buffer, wait: None }
+    Seen { refusal: result.err(), answer: result.ok().flatten(), buffer, ..Seen::default() }
 }
 
 fn save(drive: &Drive, length: usize, fill: u8) -> Seen {
     let mut buffer = vec![fill; length];
     let result = drive.image(&mut buffer);
-    Seen { refusal: result.err(), answer: result.ok(), buffer, wait: None }
+    Seen { refusal: result.err(), answer: result.ok(), buffer, ..Seen::default() }
 }
 
 fn waited(result: Result<(End, u32), u8>) -> Seen {
     Seen { refusal: result.err(), wait: result.ok(), ..Seen::default() }
+}
+
+fn summed(result: Result<Totals, u8>) -> Seen {
+    Seen { refusal: result.err(), totals: result.ok(), ..Seen::default() }
 }
 
 /// The first request stands for all 165, which are refused alike and change nothing.

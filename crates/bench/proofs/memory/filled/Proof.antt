@@ -7,10 +7,10 @@ use Rattle.bench.proofs.memory.filled.Statement.{statement}
 use Rattle.bench.proofs.memory.filled.Tie as tie
 
 abbrev Inv-loop : tie.InvT-loop
-Inv-loop cells₀ k₀ cells k = Unit {0}
+Inv-loop layout cells₀ k₀ cells k = Unit {0}
 
 abbrev μ-loop : tie.MeasureT-loop
-μ-loop cells₀ k₀ cells k = 131 - k
+μ-loop layout cells₀ k₀ cells k = 131 - k
 
 cell-at-requires : tie.Need-cell-at-requires Inv-loop μ-loop
 cell-at-requires c κs = tt

@@ -43,12 +43,20 @@ returns-4 c =
     (told (onNumber (numberCall (formOf 87))) (number .given .1) refl)
 
 returns-5 : tie.Need-returns-5
-unfolding onNumber
+unfolding formOf formIn onNumber numberCall choose bytes
 returns-5 c =
+    let a = c .before .before .before .before .args in
+    let number = c .before .before .number in
+    told (λ (k : ℕ). onNumber (numberCall (formOf k)) (a .number)) (c .match2 .keys4)
+    (told (onNumber (numberCall (formOf 84))) (number .given .1) refl)
+
+returns-6 : tie.Need-returns-6
+unfolding onNumber
+returns-6 c =
     let l = c .before .before .before .before .args .letter in
     let n = c .match2 .rest in
     told (onNumber (numberCall (formOf l))) (c .before .before .number .given .1)
-    (number-other l _ (ne-eqb l 70 (n .0 .0 .1)) (ne-eqb l 73 (n .0 .1)) (ne-eqb l 87 (n .1)))
+    (number-other l _ (ne-eqb l 70 (n .0 .0 .0 .1)) (ne-eqb l 73 (n .0 .0 .1)) (ne-eqb l 87 (n .0 .1)) (ne-eqb l 84 (n .1)))
 
 pub with-number-spec : {M : Type 1} → statement M
 with-number-spec =
@@ -60,4 +68,5 @@ with-number-spec =
     returns-2
     returns-3
     returns-4
-    returns-5)
+    returns-5
+    returns-6)

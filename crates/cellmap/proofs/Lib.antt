@@ -1,0 +1,2 @@
+-- Counting: marking a place takes one from those that have no mark.
+pub mod Counting

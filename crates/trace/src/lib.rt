@@ -1,0 +1,1 @@
+// What a program makes that nothing interrupts: definitions and laws. No code.
