@@ -46,9 +46,9 @@ const PROGRAMS: [(usize, &str); 7] = [
 const WALK: [&str; 5] =
     ["21,2200,-9,x4", "65,400", "11,30,+8388607,x1", "58,F3,1", "01,10,20,+5000,x4"];
 
-const NAMES: [&str; 16] = [
-    "wn", "qm", "qa", "inputs", "delay", "cell", "step", "refused", "halted", "order", "wait",
-    "long", "cells", "save", "load", "totals",
+const NAMES: [&str; 19] = [
+    "wn", "qm", "qa", "small", "ten", "negative", "inputs", "delay", "cell", "step", "refused",
+    "halted", "order", "wait", "long", "cells", "save", "load", "totals",
 ];
 
 /// The sum that a benchmark writes, or all of them one after the other. `None` where there is no such benchmark.
@@ -58,6 +58,9 @@ pub fn bench(name: &str, count: u32) -> Option<u32> {
         "wn" => strings(started(idle), "00WN,100,01,10,20,+5000,x1,101\r", count),
         "qm" => strings(started(idle), "00QM,100\r", count),
         "qa" => strings(started(idle), "00QA\r", count),
+        "small" => positions(started(idle), count, |k| scattered(k, 10)),
+        "ten" => positions(started(idle), count, |k| 1_000_000_000 + scattered(k, 1_147_483_648)),
+        "negative" => positions(started(idle), count, |k| -100_000 - scattered(k, 900_000)),
         "inputs" => events(started(idle), count, |drive, k| drive.inputs(k % 8)),
         "delay" => events(started(delaying), count, |drive, _| drive.millisecond()),
         "cell" => events(started(looping), count, |drive, _| drive.millisecond()),
@@ -121,6 +124,26 @@ fn strings(mut drive: Drive, first: &str, count: u32) -> u32 {
         black_box(&mut drive);
     }
     sum
+}
+
+/// A QA of one position after another. Seen of an answer are its length and its last digit.
+fn positions(mut drive: Drive, count: u32, position: impl Fn(u32) -> i32) -> u32 {
+    let mut buffer = [0; 64];
+    let mut sum = 0;
+    for k in 0..count {
+        drive.position = position(k);
+        let told = drive.string(b"00QA\r", &mut buffer);
+        let length = told.ok().flatten().unwrap_or_default();
+        let last = length.checked_sub(2).map_or(0, |place| u32::from(buffer[place]));
+        sum = added(sum, length as u32 * 256 + last);
+        black_box(&mut drive);
+    }
+    sum
+}
+
+/// A number below a limit that tells nothing of the next one.
+fn scattered(k: u32, limit: u64) -> i32 {
+    (u64::from(k) * 2_654_435_761 % limit) as i32
 }
 
 /// Every byte that the cells show: the sum then says which memory the calls are made on.

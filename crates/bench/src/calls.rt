@@ -1,8 +1,10 @@
 // The loops of calls, which are timed, but for the one over the cells. The drive that a timed call
 // hands back goes into the next one.
+ghost use Prim.Native.Nat.{_<_};
 use crate::sums::added;
 use crate::sums::answer_seen;
 use crate::sums::image_seen;
+use crate::sums::last_seen;
 use crate::sums::length_of;
 use crate::sums::loaded_seen;
 use crate::sums::order_seen;
@@ -26,6 +28,13 @@ pub enum Event {
     Halted,
 }
 
+// Positions of one digit, of ten digits, and of six under zero.
+pub enum Place {
+    Small,
+    Ten,
+    Negative,
+}
+
 fn digit(number: u32) -> u8 {
     b'0' + (number % 10) as u8
 }
@@ -46,6 +55,39 @@ pub fn strings(text: &mut [u8], buffer: &mut [u8], drive: Drive, count: u32) -> 
         let told = d.string(text, buffer);
         d = told.drive;
         sum = added(sum, answer_seen(told.length, buffer));
+        k += 1;
+    }
+    sum
+}
+
+// A number below a limit that tells nothing of the next one.
+fn scattered(k: u32, limit: u32) -> u32
+    requires { ⌜ 0 < limit ⌝ }
+    ensures { λ r. ⌜ r < limit ⌝ }
+{
+    (k as u64 * 2_654_435_761 % limit as u64) as u32
+}
+
+// A position, as 32 bits.
+fn position_at(place: Place, k: u32) -> u32 {
+    match place {
+        Place::Small => scattered(k, 10),
+        Place::Ten => 1_000_000_000 + scattered(k, 1_147_483_648),
+        Place::Negative => 0xfffe_7960 - scattered(k, 900_000),
+    }
+}
+
+pub fn positions(place: Place, drive: Drive, count: u32) -> u32 {
+    let mut buffer = [0u8; 64];
+    let mut d = drive;
+    let mut sum: u32 = 0;
+    let mut k: u32 = 0;
+    while k < count {
+        let position = position_at(place, k);
+        d.machine.state.position.0 = position;
+        let told = d.string(b"00QA\r", &mut buffer);
+        d = told.drive;
+        sum = added(sum, last_seen(told.length, &buffer));
         k += 1;
     }
     sum

@@ -6,6 +6,7 @@ mod memory;
 mod sums;
 
 use calls::Event;
+use calls::Place;
 use decimal::parse::Number;
 use drive::Drive;
 use sums::added;
@@ -46,6 +47,19 @@ fn strings(name: &[u8], count: u32) -> u32 {
     if check::same(name, b"qa") {
         let mut text = *b"00QA\r";
         return told(&mut text, count);
+    }
+    positions(name, count)
+}
+
+fn positions(name: &[u8], count: u32) -> u32 {
+    if check::same(name, b"small") {
+        return calls::positions(Place::Small, idle(), count);
+    }
+    if check::same(name, b"ten") {
+        return calls::positions(Place::Ten, idle(), count);
+    }
+    if check::same(name, b"negative") {
+        return calls::positions(Place::Negative, idle(), count);
     }
     events(name, count)
 }
@@ -111,6 +125,9 @@ fn all(count: u32) -> u32 {
     let mut sum = added(0, strings(b"wn", count));
     sum = added(sum, strings(b"qm", count));
     sum = added(sum, strings(b"qa", count));
+    sum = added(sum, positions(b"small", count));
+    sum = added(sum, positions(b"ten", count));
+    sum = added(sum, positions(b"negative", count));
     sum = added(sum, events(b"inputs", count));
     sum = added(sum, events(b"delay", count));
     sum = added(sum, events(b"cell", count));

@@ -28,6 +28,18 @@ pub fn answer_seen(length: usize, buffer: &[u8]) -> u32 {
     n
 }
 
+// An answer's length and the last byte before its end.
+pub fn last_seen(length: usize, buffer: &[u8]) -> u32 {
+    let n = (length % 256) as u32 * 256;
+    if length < 2 {
+        return n;
+    }
+    if buffer.len() < length {
+        return n;
+    }
+    wrapping_add_u32(n, wide(buffer[length - 2]))
+}
+
 fn remaining_bits(remaining: Remaining) -> u32 {
     match remaining {
         Remaining::Nothing => 0,

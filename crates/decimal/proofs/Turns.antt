@@ -1,7 +1,7 @@
 -- One turn of each loop, and each case of a sign.
 -- Assumes nothing.
 use Prim.Native.Nat.{ℕ, zero, suc, _+_, _-_, _*_, _/_, _%_, _^_, _≤_, _<_}
-use native.Mathlib.Nat.{pow-suc, pow-le-pow-right, le-trans}
+use native.Mathlib.Nat.{pow-suc, pow-le-pow-right, le-trans, div-one, add-zero, zero-add}
 use native.Mathlib.Numerals.{add-one}
 use native.Mathlib.Omega.{arith}
 use mathlib.Core.Path.{_≡_, refl, ap, _∙_}
@@ -18,11 +18,13 @@ use Rattle.decimal.specs.declared.parse.Number.the-variants.{Value, Bad}
 use Rattle.decimal.proofs.Printing.{pow-pos}
 
 -- printing digits: what is left, at the width before and after a digit
-pub left-below : (k n p : ℕ) → 0 < k → n < 10 ^ k → p ≡ 10 ^ (k - 1) → (0 < p) × (n < 10 * p)
-left-below zero n p h l e = absurd (omega arith)
-left-below (suc k) n p h l e =
+pub left-below : (k n p : ℕ) → 0 < k → k ≤ 10 → n < 10 ^ k → p ≡ 10 ^ (k - 1) → (0 < p) × ((p ≤ 10 ^ 9) × (n < 10 * p))
+left-below zero n p h t l e = absurd (omega arith)
+left-below (suc k) n p h t l e =
     let d : suc k - 1 ≡ k = omega arith in
     let e′ : p ≡ 10 ^ k = e ∙ ap (λ (j : ℕ). 10 ^ j) d in
+    let short : k ≤ 9 = omega arith in
+    let most : 10 ^ k ≤ 10 ^ 9 = pow-le-pow-right (lit< tt) short in
     omega (arith, pow-suc 10 k, pow-pos k)
 
 pub sets-digits :
@@ -34,17 +36,42 @@ sets-digits l i (suc k) n p b m h ep eb em =
     let e : suc k - 1 ≡ k = omega arith in
     rw (eb, em, ep, e, add-one i)
 
+-- the last digit is what is left
+pub sets-last : (l : List ℕ) (i n : ℕ) → sets l i (digits 1 n) ≡ set l i (48 + n)
+unfolding digits
+sets-last l i n = rw (div-one n)
+
 -- finding the width
 pub width-here : (f w n p : ℕ) → p ≡ 10 ^ w → n < p → widthFrom f w n ≡ w
 unfolding widthFrom choose
 width-here zero w n p e h = refl
 width-here (suc f) w n p e h = simp (lt-ltb n (10 ^ w) (omega arith))
 
-pub width-next : (w n p : ℕ) → w < 10 → p ≡ 10 ^ w → p ≤ n → widthFrom (10 - w) w n ≡ widthFrom (10 - (w + 1)) (w + 1) n
+-- a number that is not below a power is not below those before it, from that of the width w on
+pub width-past :
+    (j f g w u v n p : ℕ) → u ≡ j + w → v ≡ suc u → f ≡ suc (j + g) → p ≡ 10 ^ u → p ≤ n →
+    widthFrom f w n ≡ widthFrom g v n
 unfolding widthFrom choose
-width-next w n p l e h =
-    let d : 10 - w ≡ suc (10 - (w + 1)) = omega arith in
-    rw (d, add-one w) (simp (le-ltb n (10 ^ w) (omega arith)))
+width-past zero f g w u v n p eu ev ef ep h =
+    let a : f ≡ suc g = omega arith in
+    let b : v ≡ suc w = omega arith in
+    let low : 10 ^ w ≤ n = rw (← zero-add w, ← eu) (omega arith) in
+    rw (a, b) (simp (le-ltb n (10 ^ w) low))
+width-past (suc j) f g w u v n p eu ev ef ep h =
+    let a : f ≡ suc (suc (j + g)) = omega arith in
+    let wide : w ≤ u = omega arith in
+    let less : 10 ^ w ≤ 10 ^ u = pow-le-pow-right (lit< tt) wide in
+    let low : 10 ^ w ≤ n = omega arith in
+    rw a (simp (le-ltb n (10 ^ w) low) (width-past j (suc (j + g)) g (suc w) u v n p (omega arith) ev refl ep h))
+
+-- a number below a power is not looked for past it
+pub width-within : (f g w n p : ℕ) → p ≡ 10 ^ (w + f) → n < p → widthFrom (f + g) w n ≡ widthFrom f w n
+unfolding widthFrom choose
+width-within zero g w n p e h = width-here (zero + g) w n p (e ∙ ap (λ (k : ℕ). 10 ^ k) (add-zero w)) h
+width-within (suc f) g w n p e h =
+    let a : suc f + g ≡ suc (f + g) = omega arith in
+    let b : w + suc f ≡ suc w + f = omega arith in
+    rw a (ap (choose (ltb n (10 ^ w)) w) (width-within f g (suc w) n p (e ∙ ap (λ (k : ℕ). 10 ^ k) b) h))
 
 -- parsing digits: the value stays below the power of the place
 pub value-below : (a i d : ℕ) → a < 10 ^ i → d < 10 → a * 10 + d < 10 ^ (i + 1)

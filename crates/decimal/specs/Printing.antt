@@ -12,6 +12,10 @@ pub record Split (n p : ℕ) (d : Digit) : Type 0 where
   pub byte : d .byte ≡ 48 + n / p
   pub left : d .left ≡ n % p
 
+-- 02: "by taking powers of ten away": the number m, counted so often, is taken away where it is within what is left
+unfoldable pub takenAway : Digit → ℕ → ℕ → Digit
+takenAway d m count = choose (ltb (d .left) m) d (record { byte = d .byte + count; left = d .left - m })
+
 -- 01: "Letters shown as fields have exactly that many digits": the w digits of n (below 10 ^ w), highest first
 unfoldable pub digits : ℕ → ℕ → List ℕ
 digits zero n = []

@@ -5,7 +5,7 @@ ghost use Prim.Native.Nat.{_+_, _≤_};
 ghost use lib.ListN.{length};
 ghost use Rattle.laws.specs.Writing.{Put};
 ghost use Rattle.fields.specs.Kinds.{nextOf, signOf, multiplierDigit, multiplierOf, nameOf};
-ghost use Rattle.fields.specs.Kinds.{parseField, printField, Printable};
+ghost use Rattle.fields.specs.Kinds.{parseField, lettersOf, printField, Printable};
 use crate::names;
 use crate::names::Names;
 use decimal::parse::Number;
@@ -141,6 +141,15 @@ fn put_pair(buf: &mut [u8], at: usize, a: u8, b: u8) -> usize
     at + 2
 }
 
+// The two letters of a name.
+fn put_name(buf: &mut [u8], at: usize, x: u16) -> usize
+    requires { ⌜ at + 2 ≤ length (now buf) ⌝ }
+    ensures { λ r. ⌜ Put (now (buf .entry)) (now (buf .exit)) (lettersOf x) at r ⌝ }
+{
+    let first = x >> 8;
+    put_pair(buf, at, first as u8, (x - first * 256) as u8)
+}
+
 // A field of a kind, as 01 prints it.
 pub fn put_field(buf: &mut [u8], at: usize, kind: Kind, v: u32) -> usize
     requires { ⌜ Printable kind v at (now buf) ⌝ }
@@ -166,9 +175,6 @@ pub fn put_field(buf: &mut [u8], at: usize, kind: Kind, v: u32) -> usize
                 put_pair(buf, at, b'x', b'4')
             }
         }
-        Kind::Name(names) => {
-            let x = names::name(names, v as usize);
-            put_pair(buf, at, (x / 256) as u8, (x % 256) as u8)
-        }
+        Kind::Name(names) => put_name(buf, at, names::name(names, v as usize)),
     }
 }

@@ -1,14 +1,13 @@
 -- `fields::kinds::put_field` meets its contract: each kind by its own writer. What a writer asks follows from good and valid.
 -- Assumes nothing.
-use Prim.Native.Nat.{ℕ, _+_, _/_, _%_, _≤_, _<_}
+use Prim.Native.Nat.{ℕ, _+_, _≤_, _<_}
 use native.Mathlib.Omega.{arith}
 use mathlib.Core.Path.{_≡_, _∙_, ap, sym, subst}
-use mathlib.Core.List.{List, [], _∷_}
+use mathlib.Core.List.{List}
 use mathlib.Core.Logic.{⊎-elim}
-use lib.ListN.{length, getD}
+use lib.ListN.{length}
 use Rattle.laws.proofs.Writing.{put-as}
 use Rattle.decimal.proofs.Printing.{length-digits}
-use Rattle.fields.specs.Names.{listOf}
 use Rattle.fields.specs.Kinds.{lettersOf, printField, good, valid}
 use Rattle.fields.specs.declared.kinds.Kind.{Kind}
 use Rattle.fields.proofs.Bounds.{good-fixed, valid-between, valid-next, valid-name}
@@ -111,19 +110,13 @@ enum-known-kind-2 c = search needs
 
 name-requires : tie.Need-name-requires
 name-requires c κs =
-    let a = c .before .before .before .before .args in
-    let k = c .before .kind2 .given in
-    valid-name (k .0 .0) (a .v) (ap (λ (x : Kind). valid x (a .v)) (sym (k .1)) ∙ c .before .before .before .before .pre .valueValid)
+    let a = c .before .before .before .before .before .args in
+    let k = c .before .before .kind2 .given in
+    valid-name (k .0 .0) (a .v) (ap (λ (x : Kind). valid x (a .v)) (sym (k .1)) ∙ c .before .before .before .before .before .pre .valueValid)
 
-cast-put-pair : tie.Need-cast-put-pair
-cast-put-pair c = search needs
-
-cast-put-pair-2 : tie.Need-cast-put-pair-2
-cast-put-pair-2 c = search needs
-
-put-pair-requires-3 : tie.Need-put-pair-requires-3
+put-name-requires : tie.Need-put-name-requires
 unfolding printField lettersOf
-put-pair-requires-3 c κs =
+put-name-requires c κs =
     let v = c .before .before .before .before .before .before .args .v in
     fits _ _ (print-same v (c .before .before .before .kind2 .given .1)) (c .before .before .before .before .before .before .pre .room)
 
@@ -212,13 +205,12 @@ same-length-10 : tie.Need-same-length-10
 same-length-10 c = search needs
 
 returns-10 : tie.Need-returns-10
-unfolding printField lettersOf
+unfolding printField
 returns-10 c =
     let v = c .before .before .before .before .before .before .before .before .before .args .v in
     let k = c .before .before .before .before .before .before .kind2 .given in
-    let x = c .before .before .before .before .name in
-    let e : lettersOf (getD (listOf (k .0 .0)) v 0) ≡ x .result / 256 ∷ x .result % 256 ∷ [] = ap lettersOf (sym (x .ensures)) in
-    put-as (sym (print-same v (k .1) ∙ e)) (c .before .before .put-pair3 .ensures)
+    let x = c .before .before .before .name in
+    put-as (sym (print-same v (k .1) ∙ ap lettersOf (sym (x .ensures)))) (c .before .before .put-name .ensures)
 
 pub put-field-spec : {M : Type 1} → statement M
 put-field-spec =
@@ -242,9 +234,7 @@ put-field-spec =
     put-pair-requires-2
     enum-known-kind-2
     name-requires
-    cast-put-pair
-    cast-put-pair-2
-    put-pair-requires-3
+    put-name-requires
     same-length
     returns
     same-length-2
