@@ -11,6 +11,7 @@ mod events;
 mod fields;
 mod images;
 pub mod layout;
+mod modes;
 pub mod random;
 mod raw;
 mod strings;
@@ -46,7 +47,7 @@ struct Generator {
 /// One kind of call, or a short run of calls that belong together.
 type Kind = fn(&mut Generator);
 
-const WHILE_IDLE: [(usize, Kind); 31] = [
+const WHILE_IDLE: [(usize, Kind); 32] = [
     (30, Generator::program),
     (9, Generator::looped_program),
     (6, Generator::jump_program),
@@ -63,6 +64,7 @@ const WHILE_IDLE: [(usize, Kind); 31] = [
     (5, Generator::cam_nearby),
     (3, Generator::position_at_the_end),
     (3, Generator::absolute_limit),
+    (2, Generator::long_rest),
     (5, Generator::write_back),
     (6, Generator::any_inputs),
     (4, Generator::quiet_inputs),
@@ -75,7 +77,7 @@ const WHILE_IDLE: [(usize, Kind); 31] = [
     (5, Generator::raw_write),
     (1, Generator::fresh),
     (12, Generator::save),
-    (14, Generator::load),
+    (18, Generator::load),
     (6, Generator::totals),
     (8, Generator::walk),
 ];

@@ -103,18 +103,19 @@ impl Drive {
         }
     }
 
-    /// 01: "Indexed: shift = n×m; in absolute mode n×m less position, beyond 8,388,607×m either way
-    /// error 50. Shift 0 passes on."
+    /// 01: "Indexed: shift = n×m", "Shift 0 passes on." 02, Slip 4: "In absolute mode n is the target
+    /// itself for x1 and x4", "A shift beyond 8,388,607 either way gives error 50 in both."
     fn take_indexed(&mut self, steps: i32, instruction: Instruction) {
         if self.lacks_multiplier(instruction) {
             return self.fail(51);
         }
-        let m = i64::from(instruction.multiplier());
-        let mut shift = i64::from(steps) * m;
-        if self.presets.absolute {
-            shift -= i64::from(self.position);
-        }
-        if shift.abs() > i64::from(MOST_STEPS) * m {
+        let n = i64::from(steps);
+        let shift = if self.presets.absolute {
+            n - i64::from(self.position)
+        } else {
+            n * i64::from(instruction.multiplier())
+        };
+        if self.presets.absolute && shift.abs() > i64::from(MOST_STEPS) {
             return self.fail(50);
         }
         match shift {

@@ -7,6 +7,8 @@ mod coverage;
 mod images;
 #[path = "common/scripts.rs"]
 mod scripts;
+#[path = "common/targets.rs"]
+mod targets;
 #[path = "common/walks.rs"]
 mod walks;
 

@@ -9,6 +9,8 @@ mod board;
 mod coverage;
 #[path = "common/images.rs"]
 mod images;
+#[path = "generated/indexed.rs"]
+mod indexed;
 #[path = "generated/kept.rs"]
 mod kept;
 #[path = "common/rebuild.rs"]
@@ -17,6 +19,8 @@ mod rebuild;
 mod scripts;
 #[path = "generated/summed.rs"]
 mod summed;
+#[path = "common/targets.rs"]
+mod targets;
 #[path = "common/walks.rs"]
 mod walks;
 

@@ -603,13 +603,19 @@ fn p5_2_absolute_coordinates_mode_field_overflow() {
     list(&format!("s 00WS,CM,1; s 00SA,-8386207; {run}; B = run:+,20000,30,+8388607,1,0,0"));
 }
 
-// The manual multiplies the frequency alone; 01 multiplies the target and the limit too.
+// "only maximum frequency and acceleration are multiplied by four. In this case the position reached
+// is the one set as instruction parameter". Since 02, Slip 4, this agrees: target, limit, frequency.
+// Beside it stay the manual's error of 3 steps and its acceleration: each step counts one here, and
+// the order names the code of the ramp.
 #[test]
 fn p5_2_absolute_coordinates_mode_with_x4() {
-    list(
-        "s 00WS,CM,1; s 00WN,100,01,20,30,+2400,X4,000; s 00PS,100; M; \
-         B = run:+,80000,30,+9600,1,0,0",
-    );
+    let run = "s 00WN,100,01,20,30,+2400,X4,000; s 00PS,100";
+    list(&format!(
+        "s 00WS,CM,1; {run}; M; B = run:+,80000,30,+2400,1,0,0; P 2400; s 00QA = 00QA,+2400"
+    ));
+    list(&format!("s 00WS,CM,1; s 00SA,2400; {run}; W 9 = idle 1; s 00QA = 00QA,+2400"));
+    list(&format!("s 00WS,CM,1; s 00SA,-8386207; {run}; M; B = run:+,80000,30,+8388607,1,0,0"));
+    list(&format!("s 00WS,CM,1; s 00SA,-8388607; {run}; M; s 00QE = 00QE,50,100"));
 }
 
 // "coordinate 0 can be defined through the execution of a zero search procedure followed by the

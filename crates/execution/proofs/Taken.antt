@@ -21,24 +21,24 @@ use Rattle.machine.specs.declared.State.{State}
 
 within-by :
     (z : ℤ) (p : Profile) (s : State) (absolute : Bool) → z ≡ shiftOf (p .steps) (p .x4) absolute (s .position) →
-    stepsWithin (p .steps) ≡ true → both absolute (isBeyondOf z (p .x4)) ≡ false → Within z
+    stepsWithin (p .steps) ≡ true → both absolute (isBeyondOf z) ≡ false → Within z
 unfolding both shiftOf choose stepsWithin
-within-by z p s true e w t = within-not-beyond z (p .x4) t
+within-by z p s true e w t = within-not-beyond z t
 within-by z p s false e w t = rw e (within-scaled (p .steps) (p .x4) (leb-true _ 8388607 w))
 
 module _ (s : State) (p : Profile) (z : ℤ) (e : z ≡ shiftOf (p .steps) (p .x4) (s .presets .absolute) (s .position)) where
   -- a shift that is not too long is steps again
-  pub within-shift : stepsWithin (p .steps) ≡ true → both (s .presets .absolute) (isBeyondOf z (p .x4)) ≡ false → Within z
+  pub within-shift : stepsWithin (p .steps) ≡ true → both (s .presets .absolute) (isBeyondOf z) ≡ false → Within z
   within-shift w t = within-by z p s (s .presets .absolute) e w t
 
-  -- 01: "beyond 8,388,607×m either way error 50"
+  -- 02: "A shift beyond 8,388,607 either way gives error 50"
   pub indexed-far :
-      (next : CellAddress) → both (s .presets .absolute) (isBeyondOf z (p .x4)) ≡ true → failed s 50 ≡ takeIndexed s p next
+      (next : CellAddress) → both (s .presets .absolute) (isBeyondOf z) ≡ true → failed s 50 ≡ takeIndexed s p next
   unfolding takeIndexed shiftFor
   indexed-far next t = sym (choose-true _ _ _ (rw e at t))
 
   pub indexed-near :
-      (next : CellAddress) → both (s .presets .absolute) (isBeyondOf z (p .x4)) ≡ false → beginIndexed s z next ≡ takeIndexed s p next
+      (next : CellAddress) → both (s .presets .absolute) (isBeyondOf z) ≡ false → beginIndexed s z next ≡ takeIndexed s p next
   unfolding takeIndexed shiftFor
   indexed-near next t = rw e (sym (choose-false _ _ _ (rw e at t)))
 

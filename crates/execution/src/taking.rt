@@ -59,11 +59,11 @@ fn lacks_x4(state: State, x4: bool) -> bool
 }
 
 // Only in absolute mode can a run be too long.
-fn too_far(absolute: bool, shift: i64, x4: bool) -> bool
-    ensures { λ r. ⌜ r ≡ both absolute (isBeyondOf shift x4) ⌝ }
+fn too_far(absolute: bool, shift: i64) -> bool
+    ensures { λ r. ⌜ r ≡ both absolute (isBeyondOf shift) ⌝ }
 {
     if absolute {
-        return units::is_beyond(shift, x4);
+        return units::is_beyond(shift);
     }
     false
 }
@@ -84,7 +84,7 @@ fn take_indexed(state: State, profile: Profile, next: CellAddress) -> State
 {
     let absolute = state.presets.absolute;
     let shift = profile.steps.shift(profile.x4, absolute, state.position);
-    if too_far(absolute, shift, profile.x4) {
+    if too_far(absolute, shift) {
         return failed(state, 50);
     }
     begin_indexed(state, units::steps_of(shift), next)

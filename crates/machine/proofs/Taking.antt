@@ -43,12 +43,12 @@ use Rattle.machine.proofs.RemainingCounts.{within-steps, time-sound}
 use Rattle.machine.proofs.Parts.{Parts, position-sound, outputs-sound, cam-sound}
 use Rattle.machine.proofs.Going.{stopped-sound, counted-sound, advanced-sound, phase-sound, failed-sound}
 
--- 01: "Indexed: shift = n×m; in absolute mode n×m less position, beyond 8,388,607×m either way error 50"
+-- a shift that runs is a rest: times m, or in absolute mode not beyond
 shift-within :
     (n : Steps) (x : Bool) (p : Position) (absolute : Bool) → natAbs (n .0) ≤ stepLimit →
-    both absolute (isBeyondOf (shiftOf n x absolute p) x) ≡ false → Within (shiftOf n x absolute p)
+    both absolute (isBeyondOf (shiftOf n x absolute p)) ≡ false → Within (shiftOf n x absolute p)
 unfolding both shiftOf choose
-shift-within n x p true h t = within-not-beyond _ x t
+shift-within n x p true h t = within-not-beyond _ t
 shift-within n x p false h t = within-scaled n x h
 
 -- a run of any kind but an indexed one begins with no rest

@@ -5,7 +5,7 @@ use mathlib.Core.List.{[]}
 use Rattle.machine.specs.Cases.{send, replies}
 use Rattle.machine.specs.Worked.{signalsText, orderText, endText, endingText, comes, unmet}
 use Rattle.machine.specs.WorkedCases.{WorkedCases, ofStrings, ofStarts, ofCodes, ofCounts, ofRuns, ofStops, ofRecords}
-use Rattle.machine.specs.WorkedCases.{ofRecoveries, ofResumptions, ofOrders, ofRefusals, ofCommands, ofModes}
+use Rattle.machine.specs.WorkedCases.{ofRecoveries, ofResumptions, ofOrders, ofRefusals, ofTargets, ofMultipliers, ofCommands, ofModes}
 use Rattle.machine.specs.WorkedCases.{ofInstructions, ofSearches, ofCams, ofPrograms, ofLoops}
 use Rattle.machine.proofs.Computing.{computing}
 use Rattle.machine.proofs.Delays.{beforeLast, leap, leapt, quickly, waitText, comesQuickly, unmetQuickly, unmet-quickly}
@@ -59,6 +59,14 @@ refusals-hold : unmet ofRefusals ≡ []
 unfolding working ofRefusals
 refusals-hold = refl
 
+targets-hold : unmet ofTargets ≡ []
+unfolding working ofTargets
+targets-hold = refl
+
+multipliers-hold : unmet ofMultipliers ≡ []
+unfolding working ofMultipliers
+multipliers-hold = refl
+
 commands-hold : unmet ofCommands ≡ []
 unfolding working ofCommands
 commands-hold = refl
@@ -105,6 +113,8 @@ worked-hold =
       resumptions = resumptions-hold;
       orders = orders-hold;
       refusals = refusals-hold;
+      targets = targets-hold;
+      multipliers = multipliers-hold;
       commands = commands-hold;
       modes = modes-hold;
       instructions = instructions-hold;

@@ -72,14 +72,14 @@ unfoldable pub beginIndexed : State → ℤ → CellAddress → State
 beginIndexed s shift next =
     choose (isZeroOf (record { 0 = shift })) (advanced s next) (entered s Run (Counted (record { 0 = shift })))
 
--- 01: "Indexed: shift = n×m; in absolute mode n×m less position"
+-- 01: "Indexed: shift = n×m"; 02: "In absolute mode n is the target itself for x1 and x4"
 unfoldable pub shiftFor : State → Profile → ℤ
 shiftFor s p = shiftOf (p .steps) (p .x4) (isAbsolute (s .presets)) (s .position)
 
--- 01: in absolute mode, "beyond 8,388,607×m either way error 50. Shift 0 passes on."
+-- 02: in absolute mode, "A shift beyond 8,388,607 either way gives error 50 in both." 01: "Shift 0 passes on."
 unfoldable pub takeIndexed : State → Profile → CellAddress → State
 takeIndexed s p next =
-    choose (both (isAbsolute (s .presets)) (isBeyondOf (shiftFor s p) (p .x4))) (failed s 50) (beginIndexed s (shiftFor s p) next)
+    choose (both (isAbsolute (s .presets)) (isBeyondOf (shiftFor s p))) (failed s 50) (beginIndexed s (shiftFor s p) next)
 
 -- 01: "02, 32, 12, 22 and 05 are passed over while input ES is on"
 unfoldable pub takeFree : State → CellAddress → State

@@ -40,7 +40,7 @@ pub data Expected : Type 0 where
   -- a call is refused by this number, or taken where it is 0
   Refusal : Call → ℕ → Expected
 
--- the sentence of 01 or the paragraph of 001 that is held, the calls, and what comes next
+-- the sentence of 01 or 02 or the paragraph of 001 that is held, the calls, and what comes next
 pub data Worked : Type 0 where
   Case : String → List Call → Expected → Worked
 

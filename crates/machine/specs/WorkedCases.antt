@@ -1,5 +1,5 @@
--- Worked cases: what must come after a list of calls, from the sentences of 01, and from the examples of chapters 3 to 5 of 001, which are given here
--- at address 00 and in 01's forms. A case is named by its sentence or paragraph; " .. " leaves words out. The form of a case is in Worked.
+-- Worked cases: what must come after a list of calls, from the sentences of 01 and of 02's Slip 4, and from the examples of chapters 3 to 5 of 001, which are
+-- given here at address 00 and in 01's forms. A case is named by its sentence or paragraph; " .. " leaves words out. The form of a case is in Worked.
 -- Assumes nothing.
 use Prim.Native.Nat.{ℕ, _+_}
 use mathlib.Core.Path.{_≡_}
@@ -163,6 +163,52 @@ ofRefusals =
     Case "8, budget 0 or above 1,000,000 (1,000,001)" [] (Refusal (Wait 1000001) 8) ∷
     []
 
+-- ---- 02, Slip 4
+
+-- targets and limits of absolute mode
+unfoldable pub ofTargets : List Worked
+ofTargets =
+    Case "In absolute mode n is the target itself for x1 and x4"
+    (send "00WS,CM,1" ∷ send "00SA,3" ∷ send "00WN,100,11,05,+5,x4,000" ∷ send "00PS,100" ∷ Millisecond ∷ Step ∷ Step ∷ [])
+    (Answer "00QA" "00QA,+5") ∷
+    Case "only the frequency is multiplied"
+    (send "00WS,CM,1" ∷ send "00WN,100,11,05,+8388607,x4,000" ∷ send "00PS,100" ∷ Millisecond ∷ []) (Order "run,+,2000,0,+8388607,1,0,0") ∷
+    Case "A shift beyond 8,388,607 either way gives error 50 in both (forward)"
+    (send "00WS,CM,1" ∷ send "00SA,-1" ∷ send "00WN,100,11,05,+8388607,x4,000" ∷ send "00PS,100" ∷ Millisecond ∷ [])
+    (Answer "00QE" "00QE,50,100") ∷
+    Case "A shift beyond 8,388,607 either way gives error 50 in both (back)"
+    (send "00WS,CM,1" ∷ send "00SA,8388608" ∷ send "00WN,100,11,05,+0,x4,000" ∷ send "00PS,100" ∷ Millisecond ∷ [])
+    (Answer "00QE" "00QE,50,100") ∷
+    Case "A shift beyond 8,388,607 either way gives error 50 in both (back, to the limit)"
+    (send "00WS,CM,1" ∷ send "00SA,8388607" ∷ send "00WN,100,11,05,+0,x4,000" ∷ send "00PS,100" ∷ Millisecond ∷ [])
+    (Order "run,-,2000,0,-8388607,1,0,0") ∷
+    Case "A shift beyond 8,388,607 either way gives error 50 in both (from the first position)"
+    (send "00WS,CM,1" ∷ send "00SA,-2147483648" ∷ send "00WN,100,11,05,+8388607,x4,000" ∷ send "00PS,100" ∷ Millisecond ∷ [])
+    (Answer "00QE" "00QE,50,100") ∷
+    Case "A shift beyond 8,388,607 either way gives error 50 in both (from the last position)"
+    (send "00WS,CM,1" ∷ send "00SA,2147483647" ∷ send "00WN,100,11,05,-8388607,x4,000" ∷ send "00PS,100" ∷ Millisecond ∷ [])
+    (Answer "00QE" "00QE,50,100") ∷
+    []
+
+-- what stays: the order of the errors, relative runs, the steps of a 05, rests
+unfoldable pub ofMultipliers : List Worked
+ofMultipliers =
+    Case "01: x4 with RS not D2, D3, B2, B3 is error 51, before 50"
+    (send "00WS,CM,1" ∷ send "00WS,RS,D1" ∷ send "00SA,-1" ∷ send "00WN,100,11,05,+8388607,x4,000" ∷ send "00PS,100" ∷ Millisecond ∷ [])
+    (Answer "00QE" "00QE,51,100") ∷
+    Case "01: Shift 0 passes on"
+    (send "00WS,CM,1" ∷ send "00SA,5" ∷ send "00WN,100,11,05,+5,x4,000" ∷ send "00PS,100" ∷ []) (Waits 9 "idle 1") ∷
+    Case "Relative runs .. still multiply"
+    (send "00SA,2147483647" ∷ send "00WN,100,11,05,-8388607,x4,000" ∷ send "00PS,100" ∷ Millisecond ∷ [])
+    (Order "run,-,2000,0,-33554428,1,0,0") ∷
+    Case "the steps of 05 still multiply"
+    (send "00WS,CM,1" ∷ send "00WN,100,05,10,20,+,3,x4,000" ∷ send "00PS,100" ∷ Millisecond ∷ AtSpeed ∷ send "00ES" ∷ [])
+    (Order "run,+,40000,20,+12,1,0,0") ∷
+    Case "01: resumed .. with its rest as shift .. (50 not)"
+    (send "00WN,100,11,05,+8388607,x4,000" ∷ send "00WN,101,69" ∷ send "00PS,100" ∷ Millisecond ∷ Step ∷ send "00EE" ∷ send "00WS,CM,1"
+    ∷ send "00PS,101" ∷ Millisecond ∷ []) (Order "run,+,2000,0,+33554427,1,0,0") ∷
+    []
+
 -- ---- 001
 
 -- chapters 3, 4.2 and 4.3: strings, commands, requests
@@ -195,6 +241,8 @@ ofModes =
     Case "001, 5.2, field overflow"
     (send "00WS,CM,1" ∷ send "00SA,-8388607" ∷ send "00WN,100,01,20,30,+2400,X1,000" ∷ send "00PS,100" ∷ Millisecond ∷ [])
     (Answer "00QE" "00QE,50,100") ∷
+    Case "001, 5.2, with x4"
+    (send "00WS,CM,1" ∷ send "00WN,100,01,20,30,+2400,X4,000" ∷ send "00PS,100" ∷ Millisecond ∷ []) (Order "run,+,80000,30,+2400,1,0,0") ∷
     []
 
 -- chapter 4.1: runs
@@ -269,6 +317,8 @@ pub record WorkedCases : Type 0 where
   pub resumptions : unmet ofResumptions ≡ []
   pub orders : unmet ofOrders ≡ []
   pub refusals : unmet ofRefusals ≡ []
+  pub targets : unmet ofTargets ≡ []
+  pub multipliers : unmet ofMultipliers ≡ []
   pub commands : unmet ofCommands ≡ []
   pub modes : unmet ofModes ≡ []
   pub instructions : unmet ofInstructions ≡ []

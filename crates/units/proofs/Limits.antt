@@ -19,8 +19,8 @@ use Rattle.units.specs.Limits.{stepLimit, remainingLimit}
 use Rattle.units.specs.declared.Steps.{Steps}
 use Rattle.units.specs.declared.position.Position.{Position}
 use Rattle.units.specs.Position.{numberOf}
-use Rattle.units.specs.Shift.{Within, multiplierOf, scaledOf, limit, isBeyondOf}
-use Rattle.units.proofs.Integers.{natAbs-neg, natAbs-mul, natAbs-sub, sfits-natAbs}
+use Rattle.units.specs.Shift.{Within, multiplierOf, scaledOf, isBeyondOf}
+use Rattle.units.proofs.Integers.{natAbs-mul, natAbs-sub, sfits-natAbs}
 
 natAbs-multiplier : (x4 : Bool) → natAbs (multiplierOf x4) ≤ 4
 unfolding multiplierOf choose
@@ -36,32 +36,20 @@ natAbs-scaled n x4 = rw (natAbs-mul (n .0) (multiplierOf x4)) (mul-le-mul-left (
 pub within-scaled : (n : Steps) (x4 : Bool) → natAbs (n .0) ≤ stepLimit → Within (scaledOf n x4)
 within-scaled n x4 h = record { within = omega (arith, natAbs-scaled n x4) }
 
--- nothing overflows: every i32 times m, and less every position, is an i64
+-- nothing overflows: every i32 times m, and every i32 less a position, is an i64
 pub sfits-scaled : (n : Steps) (x4 : Bool) → SFits w32 (n .0) → SFits w64 (scaledOf n x4)
 sfits-scaled n x4 s =
     sfits-natAbs w64 (scaledOf n x4) 8589934592 (omega (arith, natAbs-scaled n x4, natAbs-le (n .0) (s .sfits))) (lit< tt)
 
-pub sfits-shift : (n : Steps) (x4 : Bool) (p : Position) → SFits w32 (n .0) → Fits w32 (p .0) → SFits w64 (scaledOf n x4 -ℤ numberOf p)
-sfits-shift n x4 p s f =
-    sfits-natAbs w64 (scaledOf n x4 -ℤ numberOf p) 10737418240
-    (omega
-    (arith, natAbs-sub (scaledOf n x4) (numberOf p), natAbs-scaled n x4, natAbs-le (n .0) (s .sfits), natAbs-le (numberOf p) (sfits-toZ f .sfits)))
+pub sfits-shift : (n : Steps) (p : Position) → SFits w32 (n .0) → Fits w32 (p .0) → SFits w64 (n .0 -ℤ numberOf p)
+sfits-shift n p s f =
+    sfits-natAbs w64 (n .0 -ℤ numberOf p) 4294967296
+    (omega (arith, natAbs-sub (n .0) (numberOf p), natAbs-le (n .0) (s .sfits), natAbs-le (numberOf p) (sfits-toZ f .sfits)))
     (lit< tt)
 
 -- a shift within the limit fits
 pub sfits-within : {z : ℤ} → Within z → SFits w32 z
 sfits-within {z} w = sfits-natAbs w32 z remainingLimit (w .within) (lit< tt)
-
--- the limit times m, and the same back
-within-limit : (x4 : Bool) → Within (scaledOf limit x4)
-within-limit x4 = within-scaled limit x4 (lit≤ tt)
-
-pub sfits-limit : (x4 : Bool) → SFits w64 (scaledOf limit x4)
-sfits-limit x4 = sfits-natAbs w64 (scaledOf limit x4) remainingLimit (within-limit x4 .within) (lit< tt)
-
-pub sfits-limit-back : (x4 : Bool) → SFits w64 (negℤ (scaledOf limit x4))
-sfits-limit-back x4 =
-    sfits-natAbs w64 (negℤ (scaledOf limit x4)) remainingLimit (rw (natAbs-neg (scaledOf limit x4)) (within-limit x4 .within)) (lit< tt)
 
 below-neg : (n k : ℕ) → ltZ (negsuc n) (negℤ (pos k)) ≡ false → suc n ≤ k
 below-neg n zero t = let e : _≡_ {A = ℕ} 0 1 = cc in absurd (omega arith)
@@ -72,11 +60,10 @@ natAbs-between : (z : ℤ) (k : ℕ) → either (ltZ (pos k) z) (ltZ z (negℤ (
 natAbs-between (pos n) k t = ltb-false k n (either-left _ _ t)
 natAbs-between (negsuc n) k t = below-neg n k (either-right _ _ t)
 
--- a shift that is not beyond is within
-pub within-not-beyond : (z : ℤ) (x4 : Bool) → isBeyondOf z x4 ≡ false → Within z
-unfolding isBeyondOf scaledOf multiplierOf choose
-within-not-beyond z true t = record { within = natAbs-between z remainingLimit t }
-within-not-beyond z false t = record { within = omega (arith, natAbs-between z stepLimit t) }
+-- a shift that is not beyond is within 8,388,607, and so within the limit of rests
+pub within-not-beyond : (z : ℤ) → isBeyondOf z ≡ false → Within z
+unfolding isBeyondOf
+within-not-beyond z t = record { within = omega (arith, natAbs-between z stepLimit t) }
 
 -- neither below −k nor above k
 between-within : (k : ℕ) (z : ℤ) → leZ (negℤ (pos k)) z && leZ z (pos k) ≡ leb (natAbs z) k

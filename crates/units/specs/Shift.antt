@@ -18,17 +18,13 @@ multiplierOf x4 = choose x4 (pos 4) (pos 1)
 unfoldable pub scaledOf : Steps → Bool → ℤ
 scaledOf n x4 = n .0 *ℤ multiplierOf x4
 
--- 01: "Indexed: shift = n×m; in absolute mode n×m less position"
+-- 01: "Indexed: shift = n×m". 02: "In absolute mode n is the target itself for x1 and x4", in place of 01's "n×m less position"
 unfoldable pub shiftOf : Steps → Bool → Bool → Position → ℤ
-shiftOf n x4 absolute p = choose absolute (scaledOf n x4 -ℤ numberOf p) (scaledOf n x4)
+shiftOf n x4 absolute p = choose absolute (n .0 -ℤ numberOf p) (scaledOf n x4)
 
--- the limit of steps, forward
-abbrev pub limit : Steps
-limit = record { 0 = pos stepLimit }
-
--- 01: "beyond 8,388,607×m either way"
-unfoldable pub isBeyondOf : ℤ → Bool → Bool
-isBeyondOf shift x4 = either (ltZ (scaledOf limit x4) shift) (ltZ shift (negℤ (scaledOf limit x4)))
+-- 02: "A shift beyond 8,388,607 either way", in place of 01's "beyond 8,388,607×m"
+unfoldable pub isBeyondOf : ℤ → Bool
+isBeyondOf shift = either (ltZ (pos stepLimit) shift) (ltZ shift (negℤ (pos stepLimit)))
 
 -- 01: "a rest is within 33,554,428 either way"
 pub record Within (z : ℤ) : Type 0 where

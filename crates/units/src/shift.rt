@@ -16,31 +16,31 @@ impl Steps {
         n
     }
 
-    // The shift of an indexed run of these steps: in absolute mode less the position.
+    // The shift of an indexed run of these steps: times m; in absolute mode from the position to them, whatever m is.
     pub fn shift(self, x4: bool, absolute: bool, position: Position) -> i64
         ensures { λ r. ⌜ r ≡ shiftOf self x4 absolute position ⌝ }
     {
-        let target = self.scaled(x4);
         if absolute {
+            let target = self.0 as i64;
             let p = position.number();
             return target - p;
         }
-        target
+        self.scaled(x4)
     }
 }
 
-// Whether a shift is more than the limit times m, either way.
-pub fn is_beyond(shift: i64, x4: bool) -> bool
-    ensures { λ r. ⌜ r ≡ isBeyondOf shift x4 ⌝ }
+// Whether a shift is more than the limit, either way.
+pub fn is_beyond(shift: i64) -> bool
+    ensures { λ r. ⌜ r ≡ isBeyondOf shift ⌝ }
 {
-    let limit = Steps(Steps::LIMIT).scaled(x4);
+    let limit = Steps::LIMIT as i64;
     if limit < shift {
         return true;
     }
     shift < -limit
 }
 
-// A shift within the limit of x4, as steps.
+// A shift within the limit of rests, as steps.
 pub fn steps_of(shift: i64) -> Steps
     requires { ⌜ Within shift ⌝ }
     ensures { λ r. ⌜ r .0 ≡ shift ⌝ }

@@ -154,9 +154,8 @@ impl Generator {
     /// Frequency and ramp as the ranges say, then steps and multiplier.
     fn indexed(&mut self, ranges: &[(i64, i64, usize)]) -> Vec<String> {
         let mut fields = self.ranges(ranges);
-        let multiplier = self.multiplier();
-        fields.push(self.steps(&multiplier));
-        fields.push(multiplier);
+        fields.push(self.steps());
+        fields.push(self.multiplier());
         fields
     }
 

@@ -67,7 +67,7 @@ impl Generator {
         }
     }
 
-    fn halted(&mut self) {
+    pub fn halted(&mut self) {
         if self.write("H") {
             let _ = self.drive.halted();
         }
@@ -88,7 +88,7 @@ impl Generator {
     }
 
     /// Steps to the end of a short run, or a few of a long one.
-    fn steps_of_the_run(&mut self) {
+    pub fn steps_of_the_run(&mut self) {
         let left = match self.drive.running.remaining {
             Remaining::Steps(steps) => steps.unsigned_abs(),
             _ => u32::MAX,

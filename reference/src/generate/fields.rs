@@ -109,10 +109,9 @@ impl Generator {
     }
 
     /// ±nnn steps of an indexed run: few in relative mode, and in absolute mode a place nearby.
-    pub fn steps(&mut self, multiplier: &str) -> String {
-        let times = if multiplier.ends_with('4') { 4 } else { 1 };
+    pub fn steps(&mut self) -> String {
         let absolute = self.drive.presets.absolute;
-        let here = if absolute { i64::from(self.drive.position) / times } else { 0 };
+        let here = if absolute { i64::from(self.drive.position) } else { 0 };
         let most = if self.slip() { MOST_STEPS + 1 } else { MOST_STEPS };
         let value = match self.random.below(24) {
             0 => 0,

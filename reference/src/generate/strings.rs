@@ -154,21 +154,6 @@ impl Generator {
         self.say(&text);
     }
 
-    /// An absolute run whose shift is the greatest there is, or one more, either way.
-    pub fn absolute_limit(&mut self) {
-        let times = self.random.pick(&[1, 4]);
-        let steps = self.random.between(-8_388_607, 8_388_607);
-        let shift = self.random.pick(&[-1, 1]) * (8_388_607 * times + self.random.between(-1, 1));
-        let position = steps * times - shift;
-        let cell = self.any_cell();
-        let code = self.random.pick(&["11,05", "01,10,20", "21,2200", "31,100,30"]);
-        self.say("WS,CM,1");
-        self.say(&format!("SA,{position}"));
-        self.say(&format!("WN,{cell},{code},{steps:+},x{times},000"));
-        self.say(&format!("PS,{cell}"));
-        self.one_millisecond();
-    }
-
     /// A string that slips in one field.
     pub fn careless_string(&mut self) {
         let most = self.random.pick(&[2, 4, 8, 12]);

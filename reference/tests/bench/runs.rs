@@ -129,58 +129,23 @@ fn a_program_ends_in_the_event_that_passes_on() {
     }
 }
 
-// F1: "target n x m, limit 8,388,607 x m, both with m"
+// 01: "Indexed: shift = n×m"; "Shift 0 passes on." 02, Slip 4: "Relative runs .. still multiply."
 #[test]
-fn absolute_targets_and_limits_are_multiplied() {
-    list(
-        "s 00WS,CM,1; s 00WN,100,11,05,+8388607,x4,000; s 00PS,100; M; \
-         B = run:+,2000,0,+33554428,1,0,0",
-    );
-    list(
-        "s 00WS,CM,1; s 00SA,-1; s 00WN,100,11,05,+8388607,x4,000; s 00PS,100; M; \
-         s 00QE = 00QE,50,100",
-    );
-    list(
-        "s 00WS,CM,1; s 00SA,4; s 00WN,100,31,100,20,+5,x4,000; s 00PS,100; M; \
-         B = run:+,40000,20,+16,1,0,0",
-    );
-    list(
-        "s 00WS,CM,1; s 00SA,33554429; s 00WN,100,21,4800,+0,x4,000; s 00PS,100; M; \
-         s 00QE = 00QE,50,100",
-    );
-    list(
-        "s 00WS,CM,1; s 00SA,33554428; s 00WN,100,21,4800,+0,x4,000; s 00PS,100; M; \
-         B = run:-,19200,0,-33554428,1,0,0",
-    );
-}
-
-// F1: "Needs more than 32 bits; a checked 32-bit subtraction would trap"
-#[test]
-fn a_shift_beyond_32_bits_is_error_50() {
-    for (position, steps) in
-        [("-2147483648", "+8388607"), ("2147483647", "-8388607"), ("-2147483648", "+0")]
-    {
-        for multiplier in ["x1", "x4"] {
+fn relative_shifts_are_multiplied_and_do_not_depend_on_the_position() {
+    for position in ["0", "2147483647", "-2147483648"] {
+        for (fields, speed) in [
+            ("01,10,20", "40000,20"),
+            ("31,100,20", "40000,20"),
+            ("11,05", "2000,0"),
+            ("21,2200", "8724,0"),
+        ] {
             list(&format!(
-                "s 00WS,CM,1; s 00SA,{position}; s 00WN,100,01,10,20,{steps},{multiplier},000; \
-                 s 00PS,100; M; s 00QE = 00QE,50,100"
+                "s 00SA,{position}; s 00WN,100,{fields},-8388607,x4,000; s 00PS,100; M; \
+                 B = run:-,{speed},-33554428,1,0,0"
             ));
         }
     }
-}
-
-// 01: "Indexed: shift = n×m"; "Shift 0 passes on."
-#[test]
-fn relative_shifts_are_multiplied_and_do_not_depend_on_the_position() {
-    list(
-        "s 00SA,2147483647; s 00WN,100,01,10,20,-8388607,x4,000; s 00PS,100; M; \
-         B = run:-,40000,20,-33554428,1,0,0",
-    );
-    list("s 00WN,100,11,05,+0,x1,000; s 00PS,100; W 9 = idle 1");
-    list(
-        "s 00WS,CM,1; s 00SA,20; s 00WN,100,11,05,+5,x4,000; s 00PS,100; W 9 = idle 1; \
-         s 00QA = 00QA,+20",
-    );
+    list("s 00WN,100,11,05,+0,x4,000; s 00PS,100; W 9 = idle 1");
 }
 
 // F2: "a step is always one position, also with x4"

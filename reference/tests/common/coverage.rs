@@ -4,6 +4,7 @@
 
 use crate::images::{judged, PRESETS};
 use crate::scripts::{walk, Call, Moment};
+use crate::targets::{waiting, LONGEST};
 use crate::walks::{walked, Ended, Walked, ALLOWED};
 use reference::generate::layout::{self, Field};
 use reference::instruction::Instruction;
@@ -323,7 +324,7 @@ pub fn instructions_and_presets(scripts: &[Vec<Call>], least: usize) {
 /// What happens seldom: its name, and how a moment is known to be one.
 type Happening = (&'static str, fn(&Moment) -> bool);
 
-const HAPPENINGS: [Happening; 27] = [
+const HAPPENINGS: [Happening; 32] = [
     ("error 50", |m| new_error(m) == 50),
     ("error 51", |m| new_error(m) == 51),
     ("error 52", |m| new_error(m) == 52),
@@ -332,8 +333,19 @@ const HAPPENINGS: [Happening; 27] = [
     ("a start clears an error", |m| {
         m.before.fault.code != 0 && m.after.fault.code == 0 && !m.after.idle()
     }),
-    ("the longest absolute shift runs", |m| {
-        shift(m) == 33_554_428 || m.before.presets.absolute && shift(m) == 8_388_607
+    ("the longest relative shift runs", |m| {
+        !m.before.presets.absolute && shift(m) == 33_554_428 && !taken(m, "69")
+    }),
+    ("the longest absolute shift runs at x1", |m| {
+        i64::from(shift(m)) == LONGEST && far(m, 1) == LONGEST
+    }),
+    ("the longest absolute shift runs at x4", |m| {
+        i64::from(shift(m)) == LONGEST && far(m, 4) == LONGEST
+    }),
+    ("one step more is error 50 at x1", |m| new_error(m) == 50 && far(m, 1) == LONGEST + 1),
+    ("one step more is error 50 at x4", |m| new_error(m) == 50 && far(m, 4) == LONGEST + 1),
+    ("a 69 resumes a longer rest in absolute mode", |m| {
+        m.before.presets.absolute && taken(m, "69") && i64::from(shift(m)) > LONGEST
     }),
     ("a 69 resumes a run", |m| {
         taken(m, "69") && m.after.running.phase == Phase::Run && record(m.before) != 0
@@ -422,6 +434,15 @@ fn shift(m: &Moment) -> u32 {
         Remaining::Steps(steps) if *m.call == Call::Millisecond && !m.before.moving() => {
             steps.unsigned_abs()
         }
+        _ => 0,
+    }
+}
+
+/// How far the target is of an absolute run of this m, which this millisecond takes.
+fn far(moment: &Moment, times: i64) -> i64 {
+    let taken = *moment.call == Call::Millisecond && moment.before.presets.absolute;
+    match waiting(moment.before) {
+        Some((n, m, _)) if taken && m == times => (n - i64::from(moment.before.position)).abs(),
         _ => 0,
     }
 }

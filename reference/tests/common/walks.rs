@@ -80,17 +80,17 @@ impl Walked {
     }
 }
 
-/// The fields of a run end in n, XX and DDD.
+/// n×m of an indexed run, else 0.
 fn steps(fields: &[String]) -> i64 {
+    indexed(fields).map_or(0, |(n, m)| n * m)
+}
+
+/// n and m of an indexed run, whose fields end in n, XX and DDD.
+pub fn indexed(fields: &[String]) -> Option<(i64, i64)> {
     match fields {
         [code, .., n, times, _] if ["01", "11", "21", "31"].contains(&code.as_str()) => {
-            let n: i64 = n.parse().expect("n");
-            if times == "x4" {
-                4 * n
-            } else {
-                n
-            }
+            Some((n.parse().expect("n"), if times == "x4" { 4 } else { 1 }))
         }
-        _ => 0,
+        _ => None,
     }
 }
