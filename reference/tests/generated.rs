@@ -26,7 +26,7 @@ mod walks;
 
 use rebuild::rebuild;
 use reference::generate::script;
-use reference::memory::{Drive, Phase, Remaining};
+use reference::memory::{Drive, Phase, Remaining, Resolution};
 use reference::reading::requests;
 use reference::replay::replay;
 use reference::wait::End;
@@ -185,6 +185,12 @@ fn an_idle_drive_keeps_nothing_of_a_program() {
             assert!(!moment.after.moving());
         }
     });
+}
+
+/// 01: "x4 with RS not D2, D3, B2, B3 is error 51"
+fn allows_x4(drive: &Drive) -> bool {
+    use Resolution::{B2, B3, D2, D3};
+    matches!(drive.presets.resolution, D2 | D3 | B2 | B3)
 }
 
 /// Shows one in so many of the drives that are sound and idle.

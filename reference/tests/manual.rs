@@ -605,7 +605,7 @@ fn p5_2_absolute_coordinates_mode_field_overflow() {
 
 // "only maximum frequency and acceleration are multiplied by four. In this case the position reached
 // is the one set as instruction parameter". Since 02, Slip 4, this agrees: target, limit, frequency.
-// Beside it stay the manual's error of 3 steps and its acceleration: each step counts one here, and
+// Not taken are the manual's error of 3 steps and its acceleration: each step counts one here, and
 // the order names the code of the ramp.
 #[test]
 fn p5_2_absolute_coordinates_mode_with_x4() {

@@ -1,6 +1,6 @@
 //! The indexed run that waits to be taken, by the text of its cell.
 
-use crate::walks::indexed;
+use crate::walks::{fields, indexed};
 use reference::memory::{Drive, Phase};
 
 /// 02: "A shift beyond 8,388,607 either way gives error 50 in both."
@@ -12,8 +12,7 @@ pub fn waiting(drive: &Drive) -> Option<(i64, i64, i64)> {
     if drive.running.phase != Phase::Waiting {
         return None;
     }
-    let text = present.print();
-    let fields: Vec<String> = text.split(',').map(str::to_string).collect();
+    let fields = fields(present);
     let (n, m) = indexed(&fields)?;
     let unit = match fields[0].as_str() {
         "01" => 1_000,

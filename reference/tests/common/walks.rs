@@ -1,5 +1,6 @@
 //! What is met from a start cell on, by the texts of the cells and nothing else.
 
+use reference::instruction::Cell;
 use reference::memory::Drive;
 use reference::totals::Totals;
 
@@ -35,8 +36,7 @@ pub fn walked(drive: &Drive, start: u8) -> Walked {
         if cells.iter().any(|(met, _)| *met == address) {
             break Ended::MetTwice(address);
         }
-        let text = drive.cells[usize::from(address) - 100].print();
-        let fields: Vec<String> = text.split(',').map(str::to_string).collect();
+        let fields = fields(&drive.cells[usize::from(address) - 100]);
         let (allowed, next) =
             (ALLOWED.contains(&fields[0].as_str()), fields[fields.len() - 1].parse());
         cells.push((address, fields));
@@ -78,6 +78,11 @@ impl Walked {
         let delays = self.cells.iter().filter(|(_, fields)| fields[0] == "65");
         delays.map(|(_, fields)| fields[1].parse().expect("nnn")).collect()
     }
+}
+
+/// The fields of a cell after its address in QM.
+pub fn fields(cell: &Cell) -> Vec<String> {
+    cell.print().split(',').map(str::to_string).collect()
 }
 
 /// n×m of an indexed run, else 0.

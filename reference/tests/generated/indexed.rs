@@ -1,10 +1,10 @@
 //! 02, Slip 4, over generated scripts: indexed runs in both modes, by the texts of their cells.
 
-use crate::generated;
 use crate::scripts::{walk, Call};
 use crate::targets::{waiting, LONGEST};
+use crate::{allows_x4, generated};
 use reference::board::Order;
-use reference::memory::{Drive, Phase, Remaining, Resolution};
+use reference::memory::{Drive, Phase, Remaining};
 use std::collections::BTreeMap;
 
 /// What becomes of an indexed run that a millisecond takes.
@@ -18,11 +18,10 @@ enum Taken {
 /// 01: "x4 with RS not D2, D3, B2, B3 is error 51"; "Indexed: shift = n×m"; "Shift 0 passes on."
 /// 02: "In absolute mode n is the target itself for x1 and x4; only the frequency is multiplied."
 fn by_text(drive: &Drive) -> Option<Taken> {
-    use Resolution::{B2, B3, D2, D3};
     let (n, m, hertz) = waiting(drive)?;
     let absolute = drive.presets.absolute;
     let shift = if absolute { n - i64::from(drive.position) } else { n * m };
-    Some(if m == 4 && !matches!(drive.presets.resolution, D2 | D3 | B2 | B3) {
+    Some(if m == 4 && !allows_x4(drive) {
         Taken::Fault(51)
     } else if absolute && !(-LONGEST..=LONGEST).contains(&shift) {
         Taken::Fault(50)

@@ -4,9 +4,9 @@
 use crate::board::Board;
 use crate::scripts::{walk, Call};
 use crate::walks::{by_texts, walked};
-use crate::{generated, idle_drives};
+use crate::{allows_x4, generated, idle_drives};
 use reference::generate::random::Random;
-use reference::memory::{Drive, Resolution};
+use reference::memory::Drive;
 
 // Neither presets nor position, record, inputs or a program under way enter: the texts of the cells
 // say it all.
@@ -35,9 +35,7 @@ fn totals_from_every_start_are_those_of_the_texts() {
 
 /// Whether a start makes the steps of its totals: relative mode, an RS that allows x4, EE off.
 fn makes_its_steps(drive: &Drive) -> bool {
-    use Resolution::{B2, B3, D2, D3};
-    let x4 = matches!(drive.presets.resolution, D2 | D3 | B2 | B3);
-    x4 && !drive.presets.absolute && !drive.inputs.ee
+    allows_x4(drive) && !drive.presets.absolute && !drive.inputs.ee
 }
 
 /// Steps there and back, and milliseconds, that are soon given.
