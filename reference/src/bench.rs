@@ -5,7 +5,9 @@ use crate::board::Order;
 use crate::instruction::Cell;
 use crate::memory::Drive;
 use crate::replay::weighted_sum;
+use crate::usage::UsedCells;
 use std::hint::black_box;
+use Chain::{Down, Round, Up};
 
 /// The codes, and the order in which the memory holds them.
 const MIXED: [&str; 20] = [
@@ -46,9 +48,20 @@ const PROGRAMS: [(usize, &str); 7] = [
 const WALK: [&str; 5] =
     ["21,2200,-9,x4", "65,400", "11,30,+8388607,x1", "58,F3,1", "01,10,20,+5000,x4"];
 
-const NAMES: [&str; 19] = [
+/// How cells 116 to 230 lead to one another.
+enum Chain {
+    /// From 116 to 230, and to 000.
+    Up,
+    /// From 230 to 116, and to 000.
+    Down,
+    /// From 116 to 230, and to 116 again.
+    Round,
+}
+
+const NAMES: [&str; 26] = [
     "wn", "qm", "qa", "small", "ten", "negative", "inputs", "delay", "cell", "step", "refused",
-    "halted", "order", "wait", "long", "cells", "save", "load", "totals",
+    "halted", "order", "wait", "long", "cells", "save", "load", "totals", "kept", "addup",
+    "adddown", "addround", "offup", "offdown", "offround",
 ];
 
 /// The sum that a benchmark writes, or all of them one after the other. `None` where there is no such benchmark.
@@ -74,6 +87,13 @@ pub fn bench(name: &str, count: u32) -> Option<u32> {
         "save" => saves(started(idle), count),
         "load" => loads(started(idle), count),
         "totals" => totals(walking(), count),
+        "kept" => edits(chained(Up, &[100]), "00WN,100,65,5,116\r", count),
+        "addup" => edits(chained(Up, &[]), "00WN,100,00,116\r", count),
+        "adddown" => edits(chained(Down, &[]), "00WN,100,00,230\r", count),
+        "addround" => edits(chained(Round, &[]), "00WN,100,00,116\r", count),
+        "offup" => edits(chained(Up, &[100, 101]), "00WN,100,00,000\r", count),
+        "offdown" => edits(chained(Down, &[100, 101]), "00WN,100,00,000\r", count),
+        "offround" => edits(chained(Round, &[100, 101]), "00WN,100,00,000\r", count),
         "all" => NAMES.iter().try_fold(0, |sum, name| Some(added(sum, bench(name, count)?)))?,
         _ => return None,
     })
@@ -102,6 +122,22 @@ fn walking() -> Drive {
         };
         *held = cell(&format!("{},{next:03}", WALK[place % 5]));
     }
+    drive
+}
+
+/// A fresh drive with a chain of 00s. Some of the first 16 cells lead to its head.
+fn chained(chain: Chain, entries: &[usize]) -> Drive {
+    let mut drive = Drive::fresh(0).expect("01 takes address 0");
+    for address in 116..=230 {
+        drive.cells[usize::from(address) - 100].next = match (&chain, address) {
+            (Up, 230) | (Down, 116) => 0,
+            (Round, 230) => 116,
+            (Up | Round, _) => address + 1,
+            (Down, _) => address - 1,
+        };
+    }
+    let head = if let Down = chain { 230 } else { 116 };
+    entries.iter().for_each(|entry| drive.cells[entry - 100].next = head);
     drive
 }
 
@@ -242,6 +278,25 @@ fn totals(mut drive: Drive, count: u32) -> u32 {
         black_box(&mut drive);
     }
     sum
+}
+
+/// A WN of cell 100 with the map of used cells. Cell and map are put back each time, and IN is
+/// another. Seen are the memory once, the length of each answer and whether 116 and 230 are used.
+fn edits(mut drive: Drive, text: &str, count: u32) -> u32 {
+    let (first, counted, memory) = (drive.cells[0], UsedCells::count(&drive), cells(drive.clone()));
+    let mut buffer = [0; 64];
+    let mut sum = 0;
+    for k in 0..count {
+        drive.presets.current = (k % 4) as u8;
+        drive.cells[0] = first;
+        let mut used = counted;
+        let told = used.string(&mut drive, text.as_bytes(), &mut buffer);
+        let length = told.ok().flatten().unwrap_or_default() as u32;
+        let shown = u32::from(used.has(116)) + 2 * u32::from(used.has(230));
+        sum = added(sum, length * 256 + shown);
+        black_box((&mut drive, &mut used));
+    }
+    added(memory, sum)
 }
 
 fn added(sum: u32, seen: u32) -> u32 {

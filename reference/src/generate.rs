@@ -11,6 +11,7 @@ mod events;
 mod fields;
 mod images;
 pub mod layout;
+mod maps;
 mod modes;
 pub mod random;
 mod raw;
@@ -47,7 +48,7 @@ struct Generator {
 /// One kind of call, or a short run of calls that belong together.
 type Kind = fn(&mut Generator);
 
-const WHILE_IDLE: [(usize, Kind); 32] = [
+const WHILE_IDLE: [(usize, Kind); 36] = [
     (30, Generator::program),
     (9, Generator::looped_program),
     (6, Generator::jump_program),
@@ -80,9 +81,13 @@ const WHILE_IDLE: [(usize, Kind); 32] = [
     (18, Generator::load),
     (6, Generator::totals),
     (8, Generator::walk),
+    (4, Generator::map),
+    (5, Generator::edit),
+    (3, Generator::circle),
+    (2, Generator::chain),
 ];
 
-const WHILE_WAITING: [(usize, Kind); 16] = [
+const WHILE_WAITING: [(usize, Kind); 18] = [
     (50, Generator::milliseconds),
     (16, Generator::wait),
     (9, Generator::stop_string),
@@ -99,9 +104,11 @@ const WHILE_WAITING: [(usize, Kind); 16] = [
     (2, Generator::save),
     (1, Generator::load_mostly_damaged),
     (4, Generator::totals),
+    (2, Generator::map),
+    (2, Generator::edit_while_busy),
 ];
 
-const WHILE_MOVING: [(usize, Kind); 16] = [
+const WHILE_MOVING: [(usize, Kind); 18] = [
     (60, Generator::right_report),
     (7, Generator::any_report),
     (16, Generator::stop_string),
@@ -118,10 +125,12 @@ const WHILE_MOVING: [(usize, Kind); 16] = [
     (2, Generator::save),
     (1, Generator::load_mostly_damaged),
     (4, Generator::totals),
+    (2, Generator::map),
+    (2, Generator::edit_while_busy),
 ];
 
 /// Every operation once on a record that is unsound, and soon the way back.
-const WHILE_UNSOUND: [(usize, Kind); 15] = [
+const WHILE_UNSOUND: [(usize, Kind); 16] = [
     (14, Generator::mend),
     (2, Generator::fresh),
     (3, Generator::any_string),
@@ -137,6 +146,7 @@ const WHILE_UNSOUND: [(usize, Kind); 15] = [
     (2, Generator::save),
     (1, Generator::load_mostly_damaged),
     (2, Generator::totals),
+    (2, Generator::map),
 ];
 
 impl Generator {

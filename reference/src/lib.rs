@@ -6,8 +6,9 @@
 //! (what a cell holds), `fields` (words and numbers as text), `program` (starting, milliseconds,
 //! taking a cell), `stops` (inputs words, the two stops), `board` (reports and orders), `wait`,
 //! `serial` (strings and answers), `reading` (the full reading), `image` (the memory image, written
-//! and read), `totals` (steps and milliseconds before a start). Around the drive: `console`, `replay`
-//! with its `raw` writes, `generate` (random scripts) and `bench`.
+//! and read), `totals` (steps and milliseconds before a start). Beside the drive: `usage` (the map
+//! of used cells). Around it: `console`, `replay` with its `raw` writes, `generate` (random scripts)
+//! and `bench`.
 
 pub mod bench;
 pub mod board;
@@ -25,4 +26,5 @@ pub mod replay;
 pub mod serial;
 pub mod stops;
 pub mod totals;
+pub mod usage;
 pub mod wait;

@@ -6,14 +6,26 @@ use crate::memory::Drive;
 use crate::raw::{self, unsigned};
 use crate::reading::reading;
 use crate::totals::Totals;
+use crate::usage::UsedCells;
 use crate::wait::End;
 
 /// A script under way: its drive, once the first call has made one, and how many lines were read.
 #[derive(Default)]
 pub struct Replay {
-    drive: Option<Drive>,
+    kept: Option<Kept>,
     lines: usize,
 }
+
+/// The drive in use and the map of its used cells. Strings bring the map up to date; it is counted
+/// anew where the drive is another one.
+struct Kept {
+    drive: Drive,
+    used: UsedCells,
+}
+
+/// The letters of the calls that have a fixed number of words.
+const CALLS: [&str; 15] =
+    ["F", "S", "I", "M", "P", "A", "H", "W", "B", "R", "Q", "O", "L", "T", "U"];
 
 /// What is seen of one call, beside the order and the outputs afterwards.
 #[derive(Default)]
@@ -43,15 +55,21 @@ impl Replay {
             return Ok(String::new());
         }
         let words: Vec<&str> = line.split(' ').collect();
-        let seen = match &mut self.drive {
-            Some(drive) => call(drive, &words),
+        let seen = match &mut self.kept {
+            Some(kept) => call(kept, &words),
             None => first(&words).map(|drive| {
-                self.drive = Some(drive);
+                self.kept = Some(Kept::of(drive));
                 Seen::default()
             }),
         };
         let seen = seen.map_err(|complaint| format!("line {}: {complaint}", self.lines))?;
-        Ok(self.drive.as_ref().map(|drive| seen.print(drive)).unwrap_or_default())
+        Ok(self.kept.as_ref().map(|kept| seen.print(&kept.drive)).unwrap_or_default())
+    }
+}
+
+impl Kept {
+    fn of(drive: Drive) -> Kept {
+        Kept { used: UsedCells::count(&drive), drive }
     }
 }
 
@@ -64,11 +82,14 @@ fn first(words: &[&str]) -> Result<Drive, String> {
     }
 }
 
-fn call(drive: &mut Drive, words: &[&str]) -> Result<Seen, String> {
+fn call(kept: &mut Kept, words: &[&str]) -> Result<Seen, String> {
+    let drive = &mut kept.drive;
     Ok(match words {
-        ["F", address] => Seen::of(Drive::fresh(unsigned(address)?).map(|fresh| *drive = fresh)),
+        ["F", address] => {
+            Seen::of(Drive::fresh(unsigned(address)?).map(|fresh| *kept = Kept::of(fresh)))
+        }
         ["S", string, size, fill] => {
-            call_string(drive, &bytes(string, 256)?, at_most(size, 256)?, at_most(fill, 255)?)
+            call_string(kept, &bytes(string, 256)?, at_most(size, 256)?, at_most(fill, 255)?)
         }
         ["I", word] => Seen::of(drive.inputs(unsigned(word)?)),
         ["M"] => Seen::of(drive.millisecond()),
@@ -83,20 +104,24 @@ fn call(drive: &mut Drive, words: &[&str]) -> Result<Seen, String> {
         ["Q"] => Seen::of_answer(
             reading(drive).map(|answers| format!("{}:{}", answers.len(), weighted_sum(&answers))),
         ),
-        ["K", field @ ..] => call_raw(drive, raw::write(drive, field)?),
-        ["O", size, fill] => call_image(drive, at_most(size, 2048)?, at_most(fill, 255)?),
-        ["L", image] => Seen::of(Drive::load(&bytes(image, 2048)?).map(|loaded| *drive = loaded)),
-        ["T", start] => Seen::of_answer(drive.totals(unsigned(start)?).map(print_totals)),
-        ["F" | "S" | "I" | "M" | "P" | "A" | "H" | "W" | "B" | "R" | "Q" | "O" | "L" | "T", ..] => {
-            return Err(format!("{}: missing or extra word", words[0]));
+        ["K", field @ ..] => {
+            let written = raw::write(drive, field)?;
+            call_raw(kept, written)
         }
+        ["O", size, fill] => call_image(drive, at_most(size, 2048)?, at_most(fill, 255)?),
+        ["L", image] => {
+            Seen::of(Drive::load(&bytes(image, 2048)?).map(|loaded| *kept = Kept::of(loaded)))
+        }
+        ["T", start] => Seen::of_answer(drive.totals(unsigned(start)?).map(print_totals)),
+        ["U"] => Seen::of_answer(drive.refuse_unsound().map(|()| print_map(&kept.used))),
+        [name, ..] if CALLS.contains(name) => return Err(format!("{name}: missing or extra word")),
         _ => return Err(format!("not a call: {:?}", words.join(" "))),
     })
 }
 
-fn call_string(drive: &mut Drive, string: &[u8], size: u32, fill: u32) -> Seen {
+fn call_string(kept: &mut Kept, string: &[u8], size: u32, fill: u32) -> Seen {
     let mut buffer = vec![fill as u8; size as usize];
-    let result = drive.string(string, &mut buffer);
+    let result = kept.used.string(&mut kept.drive, string, &mut buffer);
     let answer = result.ok().flatten().map(|length| shown(&buffer[..length]));
     Seen { refusal: result.err(), answer, buffer: Some(weighted_sum(&buffer)), wait: None }
 }
@@ -108,12 +133,12 @@ fn call_image(drive: &Drive, size: u32, fill: u32) -> Seen {
     Seen { refusal: result.err(), answer, buffer: Some(weighted_sum(&buffer)), wait: None }
 }
 
-fn call_raw(drive: &mut Drive, written: Option<Drive>) -> Seen {
+fn call_raw(kept: &mut Kept, written: Option<Drive>) -> Seen {
     let answer = match written {
         None => "unrepresentable",
         Some(written) => {
-            *drive = written;
-            if drive.sound() {
+            *kept = Kept::of(written);
+            if kept.drive.sound() {
                 "sound"
             } else {
                 "unsound"
@@ -172,6 +197,14 @@ fn order(drive: &Drive) -> String {
 /// `net,ms`, the net steps signed.
 fn print_totals(totals: Totals) -> String {
     format!("{:+},{}", totals.net, totals.delay)
+}
+
+/// Cells 100 to 230 from the highest bit on, 1 for a used cell, then one 0 bit: 33 hex digits.
+fn print_map(used: &UsedCells) -> String {
+    let cells = (Drive::FIRST..=Drive::LAST).map(|address| used.has(address));
+    let bits: Vec<bool> = cells.chain([false]).collect();
+    let digit = |four: &[bool]| four.iter().fold(0, |digit, on| 2 * digit + u32::from(*on));
+    bits.chunks(4).map(|four| format!("{:x}", digit(four))).collect()
 }
 
 /// O0 to O3, F0 to F7, FC, CU.

@@ -170,7 +170,7 @@ impl Drive {
 }
 
 /// 01: "BBB is 100 to 230"
-fn parse_address(field: &[u8]) -> Option<u8> {
+pub(crate) fn parse_address(field: &[u8]) -> Option<u8> {
     digits(field, 3).filter(|&address| is_address(address))
 }
 

@@ -3,8 +3,12 @@
 
 #[path = "common/coverage.rs"]
 mod coverage;
+#[path = "common/edits.rs"]
+mod edits;
 #[path = "common/images.rs"]
 mod images;
+#[path = "common/reached.rs"]
+mod reached;
 #[path = "common/scripts.rs"]
 mod scripts;
 #[path = "common/targets.rs"]
@@ -79,6 +83,21 @@ fn totals_are_asked_in_every_state_and_refused() {
 #[test]
 fn walks_of_every_kind_are_added_up() {
     coverage::walks(&corpus(), 1);
+}
+
+#[test]
+fn maps_are_asked_for_in_every_state() {
+    edits::maps(&corpus(), 1);
+}
+
+#[test]
+fn ways_of_every_kind_are_added_and_taken_off() {
+    edits::edits(&corpus(), 1);
+}
+
+#[test]
+fn the_map_kept_is_what_a_fresh_count_gives() {
+    edits::kept_is_counted(&corpus());
 }
 
 #[test]

@@ -7,12 +7,18 @@ mod alike;
 mod board;
 #[path = "common/coverage.rs"]
 mod coverage;
+#[path = "common/edits.rs"]
+mod edits;
 #[path = "common/images.rs"]
 mod images;
 #[path = "generated/indexed.rs"]
 mod indexed;
 #[path = "generated/kept.rs"]
 mod kept;
+#[path = "generated/mapped.rs"]
+mod mapped;
+#[path = "common/reached.rs"]
+mod reached;
 #[path = "common/rebuild.rs"]
 mod rebuild;
 #[path = "common/scripts.rs"]
@@ -102,6 +108,16 @@ fn totals_are_asked_in_every_state_and_refused() {
 #[test]
 fn walks_of_every_kind_are_added_up() {
     coverage::walks(generated(), 5);
+}
+
+#[test]
+fn maps_are_asked_for_in_every_state() {
+    edits::maps(generated(), 20);
+}
+
+#[test]
+fn ways_of_every_kind_are_added_and_taken_off() {
+    edits::edits(generated(), 50);
 }
 
 #[test]

@@ -131,14 +131,83 @@ fn totals_have_their_observations() {
     assert_eq!(seen(&calls)[3..], expected);
 }
 
+/// The answers to the U lines among some calls.
+fn maps(calls: &str) -> Vec<String> {
+    let lines = calls.split("; ").zip(seen(calls));
+    let maps = lines.filter(|(call, _)| *call == "U").map(|(_, line)| line);
+    maps.map(|line| line.split(' ').nth(1).unwrap_or_default().to_string()).collect()
+}
+
+#[test]
+fn maps_have_their_observations() {
+    let (store, last) = (s("00WN,100,62,116,230"), s("00WN,230,00,117"));
+    let calls = format!("U; {store}; U; {last}; U; K ad 48; U; K ad 0; U; F 48; U; F 7; U");
+    let (stand, none) = ("stand:1,0,0 00000000000000", "ffff00000000000000000000000000000");
+    let expected = [
+        format!("- {none} - - - {stand}"),
+        format!("- 00Y\\x0d 463 - - {stand}"),
+        format!("- ffff80000000000000000000000000002 - - - {stand}"),
+        format!("- 00Y\\x0d 463 - - {stand}"),
+        format!("- ffffc0000000000000000000000000002 - - - {stand}"),
+        "- unsound - - - !2 00000000000000".to_string(),
+        "2 - - - - !2 00000000000000".to_string(),
+        format!("- sound - - - {stand}"),
+        format!("- ffffc0000000000000000000000000002 - - - {stand}"),
+        format!("1 - - - - {stand}"),
+        format!("- ffffc0000000000000000000000000002 - - - {stand}"),
+        format!("- - - - - {stand}"),
+        format!("- {none} - - - {stand}"),
+    ];
+    assert_eq!(seen(&calls), expected);
+}
+
+// Each cell has its bit, the first the highest of its digit; the last bit is 0.
+#[test]
+fn a_map_shows_cells_100_to_230_and_a_0() {
+    for cell in 116..=230_u32 {
+        let map = &maps(&format!("{}; U", s(&format!("00WN,100,00,{cell}"))))[0];
+        let place = (cell - 100) as usize;
+        let digit = 8 >> (place % 4);
+        let expected = format!("ffff{:0>1$x}{2}", digit, place / 4 - 3, "0".repeat(32 - place / 4));
+        assert_eq!(*map, expected, "{cell}");
+    }
+    let up = (100..230).map(|cell| s(&format!("00WN,{cell},00,{}", cell + 1)));
+    let calls = up.collect::<Vec<_>>().join("; ");
+    assert_eq!(maps(&format!("{calls}; U"))[0], format!("{}e", "f".repeat(32)));
+}
+
+#[test]
+fn a_map_is_counted_for_a_drive_that_is_loaded_or_written_raw() {
+    // Images in which cell 100 leads to 116, 230 and 000.
+    let image = |next: &str| format!("L 000102000000{next}{}", "0000".repeat(127));
+    let (near, far, nowhere) = (image("74"), image("e601"), image("00"));
+    let calls = format!(
+        "{near}; U; {far}; U; L 00; U; {nowhere}; U; K c100 0 120; U; K c120 62 121 230; U; \
+         K c120 0 256; U; K c100 0 99; U; K c100 0 116; U; F 1; U"
+    );
+    let expected = [
+        "ffff80000000000000000000000000000",
+        "ffff00000000000000000000000000002",
+        "ffff00000000000000000000000000002",
+        "ffff00000000000000000000000000000",
+        "ffff08000000000000000000000000000",
+        "ffff0c000000000000000000000000002",
+        "ffff0c000000000000000000000000002",
+        "-",
+        "ffff80000000000000000000000000000",
+        "ffff00000000000000000000000000000",
+    ];
+    assert_eq!(maps(&calls), expected);
+}
+
 #[test]
 fn unsound_drive_refuses_2_and_keeps_its_outputs() {
-    let seen = seen("K out O1 1; K ad 48; M; I 0; P; A; H; W 0; B; Q; T 100; T 0; R 5");
+    let seen = seen("K out O1 1; K ad 48; M; I 0; P; A; H; W 0; B; Q; T 100; T 0; U; R 5");
     assert_eq!(seen[1], "- unsound - - - !2 01000000000000");
-    for line in &seen[2..12] {
+    for line in &seen[2..13] {
         assert_eq!(line, "2 - - - - !2 01000000000000");
     }
-    assert_eq!(seen[12], "- 5 - - - !2 01000000000000");
+    assert_eq!(seen[13], "- 5 - - - !2 01000000000000");
 }
 
 #[test]
@@ -627,6 +696,12 @@ T -1 => not a number
 T +100 => not a number
 T 4294967296 => not a number
 t 100 => not a call
+U 1 => missing or extra word
+U x => missing or extra word
+U  => missing or extra word
+U 100 0 => missing or extra word
+u => not a call
+UU => not a call
 K => missing name
 K foo 1 => unknown name
 K AD 1 => unknown name

@@ -1,5 +1,5 @@
 // The loops of calls, which are timed, but for the one over the cells. The drive that a timed call
-// hands back goes into the next one.
+// hands back goes into the next one, but for a string with a map.
 ghost use Prim.Native.Nat.{_<_};
 use crate::sums::added;
 use crate::sums::answer_seen;
@@ -7,10 +7,12 @@ use crate::sums::image_seen;
 use crate::sums::last_seen;
 use crate::sums::length_of;
 use crate::sums::loaded_seen;
+use crate::sums::map_seen;
 use crate::sums::order_seen;
 use crate::sums::seen;
 use crate::sums::totals_seen;
 use crate::sums::wait_seen;
+use cellmap::CellMap;
 use drive::Drive;
 use drive::results::Done;
 use image::reading::read;
@@ -228,4 +230,32 @@ pub fn totals(drive: Drive, count: u32) -> u32 {
         k += 1;
     }
     sum
+}
+
+// What is seen of a string, and of a copy of the map after it.
+fn edited(drive: Drive, mut used: CellMap, text: &[u8]) -> u32 {
+    let mut buffer = [0u8; 64];
+    let told = usage::string(drive, &mut used, text, &mut buffer);
+    map_seen(told.length, &used)
+}
+
+// IN counts, so that no drive is the one before it. Memory and map are the same each time.
+fn told_with(drive: Drive, used: CellMap, text: &[u8], count: u32) -> u32 {
+    let mut d = drive;
+    let mut sum: u32 = 0;
+    let mut k: u32 = 0;
+    while k < count {
+        let current = (k % 4) as u8;
+        d.machine.state.presets.current = current;
+        sum = added(sum, edited(d, used, text));
+        k += 1;
+    }
+    sum
+}
+
+// A WN that is told again and again, with the map of the drive. The sum says which memory it is.
+pub fn edits(drive: Drive, text: &[u8], count: u32) -> u32 {
+    let mut used = [false; 131];
+    usage::count(drive, &mut used);
+    added(cells(drive), told_with(drive, used, text, count))
 }

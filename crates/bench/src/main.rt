@@ -9,6 +9,8 @@ use calls::Event;
 use calls::Place;
 use decimal::parse::Number;
 use drive::Drive;
+use memory::Chain;
+use memory::chained;
 use sums::added;
 
 // An idle drive: a request that changes nothing stands for a start.
@@ -117,6 +119,46 @@ fn totals(name: &[u8], count: u32) -> u32 {
     if check::same(name, b"totals") {
         return calls::totals(memory::walking(), count);
     }
+    edits(name, count)
+}
+
+// A WN with the map of used cells: one that changes no way, one that adds a way to a chain, one
+// that takes it off.
+fn edits(name: &[u8], count: u32) -> u32 {
+    if check::same(name, b"kept") {
+        return calls::edits(chained(Chain::Up, 1), b"00WN,100,65,5,116\r", count);
+    }
+    added_ways(name, count)
+}
+
+fn added_ways(name: &[u8], count: u32) -> u32 {
+    if check::same(name, b"addup") {
+        return calls::edits(chained(Chain::Up, 0), b"00WN,100,00,116\r", count);
+    }
+    if check::same(name, b"adddown") {
+        return calls::edits(chained(Chain::Down, 0), b"00WN,100,00,230\r", count);
+    }
+    if check::same(name, b"addround") {
+        return calls::edits(chained(Chain::Round, 0), b"00WN,100,00,116\r", count);
+    }
+    lost_ways(name, count)
+}
+
+// The way from cell 100 is taken off; from 101 the chain can still be reached.
+fn without_way(chain: Chain, count: u32) -> u32 {
+    calls::edits(chained(chain, 2), b"00WN,100,00,000\r", count)
+}
+
+fn lost_ways(name: &[u8], count: u32) -> u32 {
+    if check::same(name, b"offup") {
+        return without_way(Chain::Up, count);
+    }
+    if check::same(name, b"offdown") {
+        return without_way(Chain::Down, count);
+    }
+    if check::same(name, b"offround") {
+        return without_way(Chain::Round, count);
+    }
     0
 }
 
@@ -140,7 +182,14 @@ fn all(count: u32) -> u32 {
     sum = added(sum, others(b"cells", count));
     sum = added(sum, images(b"save", count));
     sum = added(sum, images(b"load", count));
-    added(sum, totals(b"totals", count))
+    sum = added(sum, totals(b"totals", count));
+    sum = added(sum, edits(b"kept", count));
+    sum = added(sum, added_ways(b"addup", count));
+    sum = added(sum, added_ways(b"adddown", count));
+    sum = added(sum, added_ways(b"addround", count));
+    sum = added(sum, lost_ways(b"offup", count));
+    sum = added(sum, lost_ways(b"offdown", count));
+    added(sum, lost_ways(b"offround", count))
 }
 
 fn named(name: &[u8], count: u32) -> u32 {

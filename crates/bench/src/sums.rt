@@ -1,4 +1,5 @@
 // The sum of what the calls showed: each call moves it, and so does their order.
+use cellmap::CellMap;
 use drive::results::Ending;
 use drive::results::Ordered;
 use drive::results::Refusal;
@@ -114,6 +115,14 @@ pub fn loaded_seen(loaded: Loaded) -> u32 {
     let machine = loaded.drive.machine;
     let first = machine.cells[0];
     wrapping_add_u32(wide(machine.state.presets.current), wide(first.next.0))
+}
+
+// An answer's length, and whether cells 116 and 230 are used.
+pub fn map_seen(length: usize, used: &CellMap) -> u32 {
+    let n = (length % 256) as u32 * 256;
+    let last = bit(used[130]);
+    let shown = wrapping_add_u32(bit(used[16]), wrapping_add_u32(last, last));
+    wrapping_add_u32(n, shown)
 }
 
 fn low_bits(net: NetSteps) -> u32 {

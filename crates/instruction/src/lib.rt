@@ -11,6 +11,7 @@ pub mod numbers;
 pub mod run;
 pub mod sound;
 pub mod text;
+pub mod ways;
 
 // An output that 58 sets: its place in O0 to O3, FC, F0 to F7.
 pub struct OutputName(pub u8);

@@ -46,7 +46,7 @@ pub mod Readings
 pub mod WritingBack
 pub mod Demand
 mod Demand1
-mod Demand2Hearing
+pub mod Demand2Hearing
 mod Demand2Strings
 mod Demand2Rows
 mod Demand2Frequency

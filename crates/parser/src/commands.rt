@@ -2,6 +2,7 @@
 ghost use mathlib.Core.Path.{_≡_};
 ghost use Rattle.machine.specs.Commands.{presetWith, camWith, camIn};
 ghost use Rattle.parser.specs.Fields.{storeOf, presetOf, outputOf};
+use crate::naming::cell_field;
 use crate::row::FIELDS;
 use crate::row::row;
 use fields::kinds::Kind;
@@ -20,7 +21,7 @@ use units::DriveAddress;
 pub fn store_in(s: &[u8]) -> Command
     ensures { λ r. ⌜ r ≡ storeOf (now (s .entry)) ⌝ }
 {
-    let p = rows::parse_fields(row(1, Kind::Fixed(3, 100, 230), Kind::Next), s, FIELDS);
+    let p = cell_field(s);
     if !p.ok {
         return Command::Wrong;
     }

@@ -9,6 +9,7 @@ use machine::commands::Command;
 use single::Single;
 
 mod commands;
+pub mod naming;
 mod row;
 mod single;
 

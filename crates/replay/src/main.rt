@@ -6,6 +6,7 @@ mod input;
 mod performed;
 mod reading;
 mod seen;
+mod used;
 
 use drive::Drive;
 use input::Input;
@@ -109,6 +110,8 @@ fn first_drive() -> Drive {
 // up.
 fn replay(block: &mut [u8], line: &mut [u8], out: &mut Out) {
     let mut drive = first_drive();
+    let mut used = [false; 131];
+    usage::count(drive, &mut used);
     let mut begun = false;
     let mut at: usize = 0;
     let mut input = new_input();
@@ -124,7 +127,7 @@ fn replay(block: &mut [u8], line: &mut [u8], out: &mut Out) {
         }
         if let Verdict::CarryOut(call) = verdict {
             at = with_room(out, at);
-            drive = perform(drive, call, &text, numbers, out, &mut at);
+            drive = perform(drive, call, &text, numbers, &mut used, out, &mut at);
             at = put_drive(drive, out, at);
             begun = true;
         }

@@ -1,9 +1,13 @@
 // The calls, each with the first five words of what is seen of it: refusal, answer, buffer, end and
 // count. A call hands back the next drive alone and moves the place after what was seen, and an arm
 // returns what it makes: the check of a function takes longer with each value that holds a drive.
+// The map of used cells goes with the drive: it is counted where another drive comes into use, and
+// a string brings it up to date.
 use crate::reading;
 use crate::seen;
 use crate::seen::Out;
+use crate::used;
+use cellmap::CellMap;
 use drive::Drive;
 use drive::results::Done;
 use drive::results::Told;
@@ -49,12 +53,13 @@ fn put_done(done: Done, out: &mut Out, at: &mut usize) {
 }
 
 // A refused address leaves the drive before in use.
-fn make(mut drive: Drive, number: u32, out: &mut Out, at: &mut usize) -> Drive {
+fn make(mut drive: Drive, number: u32, used: &mut CellMap, out: &mut Out, at: &mut usize) -> Drive {
     let made = Drive::fresh(address(number));
     put_done(made, out, at);
     let refusal = made.refusal;
     if refusal.number() == 0 {
         drive = made.drive;
+        usage::count(drive, used);
     }
     drive
 }
@@ -94,12 +99,13 @@ fn tell(
     string: &[u8],
     size: usize,
     fill: u8,
+    used: &mut CellMap,
     out: &mut Out,
     at: &mut usize,
 ) -> Drive {
     let mut space = [fill; 256];
     let buffer = lent(&mut space, size);
-    let told = drive.string(string, buffer);
+    let told = usage::string(drive, used, string, buffer);
     put_told(told, buffer, out, at);
     told.drive
 }
@@ -117,12 +123,13 @@ fn wait(drive: Drive, budget: u32, out: &mut Out, at: &mut usize) -> Drive {
 }
 
 // What leaves the drive as it is.
-fn put_look(drive: Drive, look: Look, out: &mut Out, at: usize) -> usize {
+fn put_look(drive: Drive, look: Look, used: &CellMap, out: &mut Out, at: usize) -> usize {
     match look {
         Look::Order => seen::put_order(out, at, drive.order()),
         Look::Rounding(number) => seen::put_rounded(out, at, frequency::round(number)),
         Look::Reading => reading::put_reading(drive, out, at),
         Look::Totals(number) => seen::put_totals(out, at, totals::along(drive, cell(number))),
+        Look::Used => used::put_used(drive.machine, used, out, at),
     }
 }
 
@@ -144,6 +151,7 @@ fn write(
     mut drive: Drive,
     write: Write,
     numbers: [u64; 7],
+    used: &mut CellMap,
     out: &mut Out,
     at: &mut usize,
 ) -> Drive {
@@ -152,6 +160,7 @@ fn write(
     if written.held {
         let machine = written.machine;
         drive = Drive { machine };
+        usage::count(drive, used);
     }
     drive
 }
@@ -165,12 +174,19 @@ fn save(drive: Drive, size: usize, fill: u8, out: &mut Out, at: usize) -> usize 
 }
 
 // A refused image leaves the drive before in use.
-fn load(mut drive: Drive, bytes: &[u8], out: &mut Out, at: &mut usize) -> Drive {
+fn load(
+    mut drive: Drive,
+    bytes: &[u8],
+    used: &mut CellMap,
+    out: &mut Out,
+    at: &mut usize,
+) -> Drive {
     let loaded = image::reading::read(bytes);
     let refusal = loaded.refusal;
     *at = seen::put_plain(out, *at, refusal.number());
     if refusal.number() == 0 {
         drive = loaded.drive;
+        usage::count(drive, used);
     }
     drive
 }
@@ -181,22 +197,23 @@ pub fn perform(
     call: Call,
     text: &[u8; 2048],
     numbers: [u64; 7],
+    used: &mut CellMap,
     out: &mut Out,
     at: &mut usize,
 ) -> Drive {
     match call {
         Call::Comment => {}
         Call::Malformed(_) => {}
-        Call::Fresh(number) => drive = make(drive, number, out, at),
+        Call::Fresh(number) => drive = make(drive, number, used, out, at),
         Call::Tell { length, size, fill } => {
-            drive = tell(drive, front(text, length), size, fill, out, at)
+            drive = tell(drive, front(text, length), size, fill, used, out, at)
         }
         Call::Happens(e) => drive = happen(drive, e, out, at),
         Call::Wait(budget) => drive = wait(drive, budget, out, at),
-        Call::Looks(look) => *at = put_look(drive, look, out, *at),
-        Call::Writes(w) => drive = write(drive, w, numbers, out, at),
+        Call::Looks(look) => *at = put_look(drive, look, used, out, *at),
+        Call::Writes(w) => drive = write(drive, w, numbers, used, out, at),
         Call::Save { size, fill } => *at = save(drive, size, fill, out, *at),
-        Call::Load { length } => drive = load(drive, front(text, length), out, at),
+        Call::Load { length } => drive = load(drive, front(text, length), used, out, at),
     }
     drive
 }

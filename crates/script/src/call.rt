@@ -28,6 +28,7 @@ pub enum Look {
     Rounding(u32),
     Reading,
     Totals(u32),
+    Used,
 }
 
 // A raw write.

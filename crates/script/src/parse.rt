@@ -44,6 +44,7 @@ fn words_of(letter: u8) -> usize
         b'O' => 3,
         b'L' => 2,
         b'T' => 2,
+        b'U' => 1,
         _ => 0,
     }
 }
@@ -57,6 +58,7 @@ fn plain(letter: u8) -> Call
         b'A' => Call::Happens(Event::AtSpeed),
         b'H' => Call::Happens(Event::Halted),
         b'B' => Call::Looks(Look::Order),
+        b'U' => Call::Looks(Look::Used),
         _ => Call::Looks(Look::Reading),
     }
 }

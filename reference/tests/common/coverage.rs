@@ -30,14 +30,14 @@ const PHASES: [(&str, &[&str]); 7] = [
     ("back", &["03"]),
 ];
 
-type Counts = BTreeMap<String, usize>;
+pub type Counts = BTreeMap<String, usize>;
 
-fn count(counts: &mut Counts, key: impl ToString) {
+pub fn count(counts: &mut Counts, key: impl ToString) {
     *counts.entry(key.to_string()).or_default() += 1;
 }
 
 /// Every key has been counted so often, and no other key at all.
-fn all_counted(counts: &Counts, keys: &[String], least: usize) {
+pub fn all_counted(counts: &Counts, keys: &[String], least: usize) {
     println!("{counts:#?}");
     for key in keys {
         let seen = counts.get(key).copied().unwrap_or(0);
@@ -224,6 +224,7 @@ pub fn refusals(scripts: &[Vec<Call>], least: usize) {
         "totals 11",
         "totals 12",
         "totals 13",
+        "map 2",
     ];
     all_counted(&counts, &refusals.map(str::to_string), least);
 }
@@ -245,11 +246,12 @@ fn operation(call: &Call) -> &'static str {
         Call::Image { .. } => "image",
         Call::Load(_) => "load",
         Call::Totals(_) => "totals",
+        Call::Map => "map",
     }
 }
 
 /// What came of a string: Y, N, an answer to a request, or silence.
-fn reply(moment: &Moment) -> &'static str {
+pub fn reply(moment: &Moment) -> &'static str {
     match moment.seen.answer {
         None => "silent",
         Some(4) if moment.seen.buffer[2] == b'Y' => "Y",
@@ -493,7 +495,7 @@ pub fn happenings(scripts: &[Vec<Call>], least: usize) {
 }
 
 /// The operation, the state of the drive, and `done` or the refusal.
-fn outcome(moment: &Moment) -> String {
+pub fn outcome(moment: &Moment) -> String {
     let state = match moment.before {
         drive if !drive.sound() => "unsound",
         drive if drive.idle() => "idle",

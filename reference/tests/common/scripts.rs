@@ -23,6 +23,7 @@ pub enum Call {
     Image { length: usize, fill: u8 },
     Load(Vec<u8>),
     Totals(u32),
+    Map,
 }
 
 /// What one call showed. `answer` is its length, `buffer` the whole buffer afterwards, of a string
@@ -85,6 +86,7 @@ fn parse(line: &str) -> Call {
         "O" => Call::Image { length: number(1) as usize, fill: words[2].parse().expect("a byte") },
         "L" => Call::Load(bytes(words[1])),
         "T" => Call::Totals(number(1)),
+        "U" => Call::Map,
         _ => panic!("no call in `{line}`"),
     }
 }
@@ -113,6 +115,8 @@ pub fn carry_out(drive: &mut Drive, call: &Call) -> Seen {
         Call::Image { length, fill } => save(drive, *length, *fill),
         Call::Load(bytes) => plain(Drive::load(bytes).map(|loaded| *drive = loaded)),
         Call::Totals(start) => summed(drive.totals(*start)),
+        // The map stands beside the drive: only the refusal is the drive's.
+        Call::Map => plain(drive.order().map(drop)),
     }
 }
 

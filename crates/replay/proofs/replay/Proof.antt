@@ -9,14 +9,17 @@ use Rattle.replay.proofs.replay.Statement.{statement}
 use Rattle.replay.proofs.replay.Tie as tie
 
 abbrev Inv-loop : tie.InvT-loop
-Inv-loop block₀ line₀ out₀ drive₀ begun₀ at₀ input₀ turns₀ block line out drive begun at input turns =
+Inv-loop block₀ line₀ out₀ drive₀ used₀ begun₀ at₀ input₀ turns₀ block line out drive used begun at input turns =
     (length block ≡ length block₀) × (length line ≡ length line₀)
 
 abbrev μ-loop : tie.MeasureT-loop
-μ-loop block₀ line₀ out₀ drive₀ begun₀ at₀ input₀ turns₀ block line out drive begun at input turns = turns
+μ-loop block₀ line₀ out₀ drive₀ used₀ begun₀ at₀ input₀ turns₀ block line out drive used begun at input turns = turns
 
 first-drive-requires : tie.Need-first-drive-requires Inv-loop μ-loop
 first-drive-requires c κs = tt
+
+count-requires : tie.Need-count-requires Inv-loop μ-loop
+count-requires c κs = tt
 
 new-input-requires : tie.Need-new-input-requires Inv-loop μ-loop
 new-input-requires c κs = tt
@@ -94,6 +97,7 @@ replay-spec =
     Inv-loop
     μ-loop
     first-drive-requires
+    count-requires
     new-input-requires
     loop-holds
     advanced-requires

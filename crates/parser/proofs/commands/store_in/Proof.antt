@@ -4,43 +4,36 @@ use Prim.Native.Nat.{ℕ}
 use mathlib.Core.Path.{_≡_, ap, sym, _∙_}
 use mathlib.Core.Bool.{true}
 use mathlib.Core.List.{List}
-use lib.Dec.{lit≤}
 use borrow.Author.Tests.{not-true, not-false}
-use Rattle.fields.specs.Rows.{kinds, parseFields}
-use Rattle.fields.specs.declared.rows.Row.{Row}
 use Rattle.fields.specs.declared.rows.Parsed.{Parsed}
 use Rattle.instruction.specs.Texts.{sentCell}
 use Rattle.instruction.specs.declared.text.Sent.{Sent}
-use Rattle.machine.specs.Commands.{fieldsAt, addressOf, onSent, storeIn}
-use Rattle.parser.proofs.Reading.{few, first-of, fields-wrong, fields-right}
+use Rattle.machine.specs.Commands.{addressOf, onSent, storeIn}
+use Rattle.parser.proofs.Reading.{fields-wrong, fields-right}
 use borrow.Author.Needs.{needs}
 use Rattle.parser.proofs.commands.store_in.Statement.{statement}
 use Rattle.parser.proofs.commands.store_in.Tie as tie
 
 -- the address is right, and t is what the text after it says, which is known to be u
 told :
-    (s : List ℕ) {r x : Row} {p : Parsed} {t u : Sent} → r ≡ x → p ≡ parseFields (kinds r) s fieldsAt → p .ok ≡ true →
-    t ≡ sentCell s (p .at) → t ≡ u → onSent (addressOf (p .values)) u ≡ storeIn s (parseFields (kinds x) s fieldsAt)
+    (s : List ℕ) {p q : Parsed} {t u : Sent} → p ≡ q → p .ok ≡ true → t ≡ sentCell s (p .at) → t ≡ u →
+    onSent (addressOf (p .values)) u ≡ storeIn s q
 unfolding storeIn
-told s {p = p} e q o f g = sym (ap (storeIn s) (first-of s fieldsAt e q) ∙ fields-right p _ o ∙ ap (onSent (addressOf (p .values))) (sym f ∙ g))
+told s {p = p} e o f g = sym (ap (storeIn s) (sym e) ∙ fields-right p _ o ∙ ap (onSent (addressOf (p .values))) (sym f ∙ g))
 
-row-requires : tie.Need-row-requires
-row-requires c κs = search needs
-
-parse-fields-requires : tie.Need-parse-fields-requires
-parse-fields-requires c κs = few (c .row .ensures) (lit≤ tt)
+cell-field-requires : tie.Need-cell-field-requires
+cell-field-requires c κs = search needs
 
 returns : tie.Need-returns
-unfolding kinds storeIn
+unfolding storeIn
 returns c =
-    let p = c .before in
-    sym (ap (storeIn _) (first-of _ _ (p .before .row .ensures) (p .parse-fields .ensures)) ∙ fields-wrong _ _ (not-true _ (c .if1 .taken)))
+    sym (ap (storeIn _) (sym (c .before .cell-field .ensures)) ∙ fields-wrong _ _ (not-true _ (c .if1 .taken)))
 
-element-copy-out-t14 : tie.Need-element-copy-out-t14
-element-copy-out-t14 c = search needs
+element-copy-out-t11 : tie.Need-element-copy-out-t11
+element-copy-out-t11 c = search needs
 
-cast-t16 : tie.Need-cast-t16
-cast-t16 c = search needs
+cast-t13 : tie.Need-cast-t13
+cast-t13 c = search needs
 
 read-cell-requires : tie.Need-read-cell-requires
 read-cell-requires c κs = search needs
@@ -52,30 +45,27 @@ enum-told : tie.Need-enum-told
 enum-told c = search needs
 
 returns-2 : tie.Need-returns-2
-unfolding kinds onSent
+unfolding onSent
 returns-2 c =
     let t = c .before .before .before in
     let i = t .before .before in
-    let p = i .before in
-    told _ (p .before .row .ensures) (p .parse-fields .ensures) (not-false _ (i .if1 .left)) (t .read-cell .ensures) (c .before .sent .given .1)
+    told _ (i .before .cell-field .ensures) (not-false _ (i .if1 .left)) (t .read-cell .ensures) (c .before .sent .given .1)
 
 returns-3 : tie.Need-returns-3
-unfolding kinds onSent
+unfolding onSent
 returns-3 c =
     let t = c .before .before in
     let i = t .before .before in
-    let p = i .before in
-    told _ (p .before .row .ensures) (p .parse-fields .ensures) (not-false _ (i .if1 .left)) (t .read-cell .ensures) (c .enum-told .given .1)
+    told _ (i .before .cell-field .ensures) (not-false _ (i .if1 .left)) (t .read-cell .ensures) (c .enum-told .given .1)
 
 pub store-in-spec : {M : Type 1} → statement M
 store-in-spec =
     tie.close
     (tie.spec
-    row-requires
-    parse-fields-requires
+    cell-field-requires
     returns
-    element-copy-out-t14
-    cast-t16
+    element-copy-out-t11
+    cast-t13
     read-cell-requires
     enum-known-sent
     enum-told

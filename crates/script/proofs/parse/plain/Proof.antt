@@ -32,12 +32,17 @@ unfolding formOf formIn aloneCall choose bytes
 returns-5 c = told (λ (k : ℕ). aloneCall (formOf k)) (c .match .keys5) refl
 
 returns-6 : tie.Need-returns-6
-returns-6 c =
+unfolding formOf formIn aloneCall choose bytes
+returns-6 c = told (λ (k : ℕ). aloneCall (formOf k)) (c .match .keys6) refl
+
+returns-7 : tie.Need-returns-7
+returns-7 c =
     let a = c .before .args in
     let l = a .letter in
     let n = c .match .rest in
     alone-other l
-    (ne-eqb l 77 (n .0 .0 .0 .0 .1)) (ne-eqb l 80 (n .0 .0 .0 .1)) (ne-eqb l 65 (n .0 .0 .1)) (ne-eqb l 72 (n .0 .1)) (ne-eqb l 66 (n .1))
+    (ne-eqb l 77 (n .0 .0 .0 .0 .0 .1)) (ne-eqb l 80 (n .0 .0 .0 .0 .1)) (ne-eqb l 65 (n .0 .0 .0 .1)) (ne-eqb l 72 (n .0 .0 .1))
+    (ne-eqb l 66 (n .0 .1)) (ne-eqb l 85 (n .1))
 
 pub plain-spec : {M : Type 1} → statement M
 plain-spec =
@@ -48,4 +53,5 @@ plain-spec =
     returns-3
     returns-4
     returns-5
-    returns-6)
+    returns-6
+    returns-7)
