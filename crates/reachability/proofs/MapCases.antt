@@ -1,6 +1,7 @@
 -- The worked maps hold, by computation; and a map that passes their test is the map of what can be reached.
 -- Assumes nothing.
 use Prim.Native.Nat.{ℕ, _<_}
+use Prim.Native.String.{String}
 use native.Mathlib.Omega.{arith}
 use mathlib.Core.Path.{_≡_, refl, sym, _∙_, subst}
 use mathlib.Core.Bool.{Bool, true, not}
@@ -23,6 +24,7 @@ use Rattle.reachability.specs.Graph.{placeOf, nextPlace, jumpPlace, Link
 use Rattle.reachability.specs.Graph.Link.{byNext, byJump}
 use Rattle.reachability.specs.Graph.Reached.{from, along}
 use Rattle.reachability.specs.MapCases.{Way, rootMarks, marksAlong, follows, stays, closed, cellsAfter, mapHolds, named, unheld, ofMaps, MapCases}
+use Rattle.reachability.specs.MapCases.MapCase.{Uses}
 use Rattle.reachability.proofs.Searching.{leads-link, inside, reached-small, marked-still, marked-before}
 
 maps-hold : unheld ofMaps ≡ []
@@ -89,5 +91,10 @@ passed cells ws t u =
     all {k} (from h r) = along-still rootMarks ws k (root-marked k h r)
     all {k} (along {j} h r x) = closed-marked cells (marksAlong rootMarks ws) u j k (reached-small r) (all r) h x
 
+holds-counted :
+    (s : String) (ss : List String) (ws : List Way) → mapHolds (Uses s ss ws) ≡ true → Counted (cellsAfter ss) isRoot (marksAlong rootMarks ws)
+unfolding mapHolds
+holds-counted s ss ws t = passed (cellsAfter ss) ws (both-left _ _ t) (both-right _ _ t)
+
 pub cases-hold : MapCases
-cases-hold = record { maps = maps-hold; counted = passed }
+cases-hold = record { maps = maps-hold; counted = holds-counted }

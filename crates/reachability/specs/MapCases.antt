@@ -96,5 +96,4 @@ pub record MapCases : Type 0 where
   pub maps : unheld ofMaps ≡ []
   -- and a map that passes the test is the map of what can be reached
   pub counted :
-      (cells : List Cell) (ws : List Way) → follows cells rootMarks ws ≡ true → closed cells (marksAlong rootMarks ws) ≡ true →
-      Counted cells isRoot (marksAlong rootMarks ws)
+      (s : String) (ss : List String) (ws : List Way) → mapHolds (Uses s ss ws) ≡ true → Counted (cellsAfter ss) isRoot (marksAlong rootMarks ws)

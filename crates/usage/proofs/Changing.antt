@@ -3,7 +3,7 @@
 use Prim.Native.Nat.{ℕ, _+_, _-_, _<_}
 use native.Mathlib.Omega.{arith}
 use mathlib.Core.Path.{_≡_, refl, sym, ap, _∙_, subst}
-use mathlib.Core.Bool.{true, false}
+use mathlib.Core.Bool.{Bool, true, false}
 use mathlib.Core.List.{List, [], _∷_}
 use mathlib.Core.Logic.{_⊎_, ⊎-elim}
 use lib.Dec.{ltb}
@@ -29,13 +29,13 @@ use Rattle.machine.specs.Calls.Call.{SendString, SetInputs, Millisecond, Step, 
 use Rattle.machine.specs.declared.Machine.{Machine}
 use Rattle.machine.specs.declared.commands.Command.{Command}
 use Rattle.machine.specs.declared.commands.Command.the-variants.{Store, SetPreset, Start, EmergencyStop, FreeRunStop, SetPosition, SetOutput, SetCam, AskPosition, AskPreset, AskInput, AskOutput, AskCell, AskCam, AskFault, AskSuspended, Wrong}
-use Rattle.machine.proofs.Tests.{clash, by-test}
+use Rattle.machine.proofs.Tests.{by-test}
 use Rattle.machine.proofs.WritingBack.{store-read}
 use Rattle.machine.proofs.Demand2Hearing.{Wrote, told-leaves, told-written}
-use Rattle.reachability.specs.Graph.{placeOf}
+use Rattle.reachability.specs.Graph.{placeOf, Counted, isRoot}
 use Rattle.usage.specs.Updating.{placeBy, placeIn}
-use Rattle.usage.specs.UsedCells.{isString}
-use Rattle.usage.proofs.Keeping.{Apart}
+use Rattle.usage.specs.UsedCells.{Brought}
+use Rattle.usage.proofs.Keeping.{Apart, updated-counted}
 
 -- ---- the cell that a WN names
 
@@ -104,16 +104,28 @@ string-apart b buffer m =
     (λ _. choose-by (λ (o : Outcome). Apart (placeIn b) (m .cells) (o .machine .cells)) (ltb (length buffer) 64) (λ _ j n. refl) (λ _. told-apart b m))
     (λ _ j n. refl)
 
+-- ---- the map after a call
+
 -- whichever outcome, with the memory that came
 Still : Machine → Outcome → Type 0
 Still m o = o .machine .cells ≡ m .cells
 
-pub other-same : (z : Call) (m : Machine) → isString z ≡ false → next z m .cells ≡ m .cells
-unfolding next apply act isString Still
-other-same (SendString b buffer) m e = clash (sym e)
-other-same (SetInputs w) m e = choose-by (Still m) (sound m) (λ _. choose-by (Still m) _ (λ _. refl) (λ _. refl)) (λ _. refl)
-other-same Millisecond m e = choose-by (Still m) (sound m) (λ _. refl) (λ _. refl)
-other-same Step m e = choose-by (Still m) (sound m) (λ _. choose-by (Still m) _ (λ _. refl) (λ _. refl)) (λ _. refl)
-other-same AtSpeed m e = choose-by (Still m) (sound m) (λ _. choose-by (Still m) _ (λ _. refl) (λ _. refl)) (λ _. refl)
-other-same Halted m e = choose-by (Still m) (sound m) (λ _. choose-by (Still m) _ (λ _. refl) (λ _. refl)) (λ _. refl)
-other-same (Wait n) m e = choose-by (Still m) (sound m) (λ _. choose-by (Still m) _ (λ _. refl) (λ _. refl)) (λ _. refl)
+-- a map that is left alone beside a memory that is
+same-counted : {before after : List Cell} {used map : List Bool} → after ≡ before → used ≡ map → Counted before isRoot used → Counted after isRoot map
+same-counted {after = after} {used = used} e q c = subst (Counted after isRoot) q (subst (λ (cells : List Cell). Counted cells isRoot used) (sym e) c)
+
+pub brought-counted :
+    (z : Call) (m : Machine) {used map : List Bool} → Brought z m used map → Counted (m .cells) isRoot used → Counted (next z m .cells) isRoot map
+unfolding Brought next apply act Still
+brought-counted (SendString b buffer) m u c = updated-counted (m .cells) _ _ (string-apart b buffer m) u c
+brought-counted (SetInputs w) m q c =
+    same-counted (choose-by (Still m) (sound m) (λ _. choose-by (Still m) _ (λ _. refl) (λ _. refl)) (λ _. refl)) q c
+brought-counted Millisecond m q c = same-counted (choose-by (Still m) (sound m) (λ _. refl) (λ _. refl)) q c
+brought-counted Step m q c =
+    same-counted (choose-by (Still m) (sound m) (λ _. choose-by (Still m) _ (λ _. refl) (λ _. refl)) (λ _. refl)) q c
+brought-counted AtSpeed m q c =
+    same-counted (choose-by (Still m) (sound m) (λ _. choose-by (Still m) _ (λ _. refl) (λ _. refl)) (λ _. refl)) q c
+brought-counted Halted m q c =
+    same-counted (choose-by (Still m) (sound m) (λ _. choose-by (Still m) _ (λ _. refl) (λ _. refl)) (λ _. refl)) q c
+brought-counted (Wait n) m q c =
+    same-counted (choose-by (Still m) (sound m) (λ _. choose-by (Still m) _ (λ _. refl) (λ _. refl)) (λ _. refl)) q c

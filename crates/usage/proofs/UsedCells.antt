@@ -19,9 +19,8 @@ use Rattle.reachability.specs.Search.{Searched}
 use Rattle.usage.specs.Updating.{loses, idles, Updated}
 use Rattle.usage.specs.Updating.Updated.{kept, grown, recounted}
 use Rattle.usage.specs.UsedCells.{Along, UsedCells}
-use Rattle.usage.specs.UsedCells.Along.{end, told, other}
-use Rattle.usage.proofs.Keeping.{updated-counted}
-use Rattle.usage.proofs.Changing.{string-apart, other-same}
+use Rattle.usage.specs.UsedCells.Along.{end, call}
+use Rattle.usage.proofs.Changing.{brought-counted}
 
 -- ---- after every list
 
@@ -29,10 +28,7 @@ along-counted :
     (zs : List Call) (m : Machine) (used map : List Bool) → Counted (m .cells) isRoot used → Along zs m used map → Counted (after zs m .cells) isRoot map
 unfolding after
 along-counted [] m used map c end = c
-along-counted (z ∷ zs) m used map c (told {b} {buffer} {mid = mid} u w) =
-    along-counted zs (next z m) mid map (updated-counted (m .cells) _ _ (string-apart b buffer m) u c) w
-along-counted (z ∷ zs) m used map c (other e w) =
-    along-counted zs (next z m) used map (subst (λ (cells : List Cell). Counted cells isRoot used) (sym (other-same z m e)) c) w
+along-counted (z ∷ zs) m used map c (call {mid = mid} b w) = along-counted zs (next z m) mid map (brought-counted z m b c) w
 
 -- ---- one outcome
 

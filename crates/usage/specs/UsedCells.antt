@@ -2,7 +2,7 @@
 -- Assumes nothing.
 use Prim.Native.Nat.{ℕ}
 use mathlib.Core.Path.{_≡_}
-use mathlib.Core.Bool.{Bool, true, false}
+use mathlib.Core.Bool.{Bool}
 use mathlib.Core.List.{List, [], _∷_}
 use Rattle.instruction.specs.declared.Cell.{Cell}
 use Rattle.machine.specs.Calls.{Call, after, next}
@@ -11,25 +11,22 @@ use Rattle.machine.specs.declared.Machine.{Machine}
 use Rattle.reachability.specs.Graph.{Counted, isRoot}
 use Rattle.usage.specs.Updating.{placeIn, Updated}
 
-unfoldable pub isString : Call → Bool
-isString (SendString b buffer) = true
-isString (SetInputs w) = false
-isString Millisecond = false
-isString Step = false
-isString AtSpeed = false
-isString Halted = false
-isString (Wait n) = false
+-- what a call makes of the map beside its drive: a string brings it up to date, "with each WN", whichever string it is; no other call touches it
+unfoldable pub Brought : Call → Machine → List Bool → List Bool → Type 0
+Brought (SendString b buffer) m used map = Updated (m .cells) (next (SendString b buffer) m .cells) (placeIn b) used map
+Brought (SetInputs w) m used map = used ≡ map
+Brought Millisecond m used map = used ≡ map
+Brought Step m used map = used ≡ map
+Brought AtSpeed m used map = used ≡ map
+Brought Halted m used map = used ≡ map
+Brought (Wait n) m used map = used ≡ map
 
--- a map kept along a list of calls: "bring it up to date with each WN", whichever string comes; no other call touches it
+-- and a list of calls
 pub data Along : List Call → Machine → List Bool → List Bool → Type 0 where
   end : {m : Machine} {used : List Bool} → Along [] m used used
-  told :
-      {b buffer : List ℕ} {zs : List Call} {m : Machine} {used mid map : List Bool} →
-      Updated (m .cells) (next (SendString b buffer) m .cells) (placeIn b) used mid →
-      Along zs (next (SendString b buffer) m) mid map → Along (SendString b buffer ∷ zs) m used map
-  other :
-      {z : Call} {zs : List Call} {m : Machine} {used map : List Bool} →
-      isString z ≡ false → Along zs (next z m) used map → Along (z ∷ zs) m used map
+  call :
+      {z : Call} {zs : List Call} {m : Machine} {used mid map : List Bool} →
+      Brought z m used mid → Along zs (next z m) mid map → Along (z ∷ zs) m used map
 
 pub record UsedCells : Type 0 where
   -- "After every list of WN strings, from a fresh or loaded drive with its map so counted, the map is what a fresh count over the cells gives": of any
