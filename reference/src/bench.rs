@@ -33,14 +33,16 @@ const MIXED: [&str; 20] = [
     "00,200",
 ];
 
-/// The programs: a loop of five cells that never ends and never waits, a delay and a run.
-const PROGRAMS: [(usize, &str); 7] = [
+/// The programs: a loop of five cells that never ends and never waits, a delay of 65,535, the longest
+/// delay and the longest run.
+const PROGRAMS: [(usize, &str); 8] = [
     (100, "61,65535,201"),
     (101, "58,F0,1,202"),
     (102, "63,F0,1,203,204"),
     (103, "58,F0,0,204"),
     (104, "62,201,200"),
     (110, "65,65535,210"),
+    (111, "65,8388607,211"),
     (120, "01,10,20,+8388607,x4,220"),
 ];
 
@@ -58,10 +60,10 @@ enum Chain {
     Round,
 }
 
-const NAMES: [&str; 26] = [
+const NAMES: [&str; 28] = [
     "wn", "qm", "qa", "small", "ten", "negative", "inputs", "delay", "cell", "step", "refused",
-    "halted", "order", "wait", "long", "cells", "save", "load", "totals", "kept", "addup",
-    "adddown", "addround", "offup", "offdown", "offround",
+    "halted", "order", "wait", "long", "short", "longest", "cells", "save", "load", "totals",
+    "kept", "addup", "adddown", "addround", "offup", "offdown", "offround",
 ];
 
 /// The sum that a benchmark writes, or all of them one after the other. `None` where there is no such benchmark.
@@ -81,8 +83,10 @@ pub fn bench(name: &str, count: u32) -> Option<u32> {
         "refused" => events(started(idle), count, |drive, _| drive.step()),
         "halted" => events(started(idle), count, |drive, _| drive.halted()),
         "order" => orders(started(moving), count),
-        "wait" => waits(started(looping), count),
-        "long" => waits(started(delaying), count),
+        "wait" => waits(started(looping), 1_000_000, count),
+        "long" => waits(started(delaying), 1_000_000, count),
+        "short" => waits(started(delaying), 60_000, count),
+        "longest" => waits(started("00PS,211\r"), 1_000_000, count),
         "cells" => cells(started(idle)),
         "save" => saves(started(idle), count),
         "load" => loads(started(idle), count),
@@ -226,10 +230,10 @@ fn order_seen(order: Result<Order, u8>) -> u32 {
     }
 }
 
-fn waits(mut drive: Drive, count: u32) -> u32 {
+fn waits(mut drive: Drive, budget: u32, count: u32) -> u32 {
     let mut sum = 0;
     for _ in 0..count {
-        let waited = drive.wait(1_000_000);
+        let waited = drive.wait(budget);
         sum = added(sum, waited.map_or(0, |(_, given)| given));
         sum = added(sum, seen(waited.err(), &drive));
         black_box(&mut drive);
@@ -283,7 +287,7 @@ fn totals(mut drive: Drive, count: u32) -> u32 {
 /// A WN of cell 100 with the map of used cells. Cell and map are put back each time, and IN is
 /// another. Seen are the memory once, the length of each answer and whether 116 and 230 are used.
 fn edits(mut drive: Drive, text: &str, count: u32) -> u32 {
-    let (first, counted, memory) = (drive.cells[0], UsedCells::count(&drive), cells(drive.clone()));
+    let (first, counted, memory) = (drive.cells[0], UsedCells::count(&drive), cells(drive));
     let mut buffer = [0; 64];
     let mut sum = 0;
     for k in 0..count {

@@ -7,6 +7,7 @@
 //! calls and no judgement on them.
 
 mod cells;
+mod delays;
 mod events;
 mod fields;
 mod images;
@@ -48,7 +49,7 @@ struct Generator {
 /// One kind of call, or a short run of calls that belong together.
 type Kind = fn(&mut Generator);
 
-const WHILE_IDLE: [(usize, Kind); 36] = [
+const WHILE_IDLE: [(usize, Kind); 38] = [
     (30, Generator::program),
     (9, Generator::looped_program),
     (6, Generator::jump_program),
@@ -66,6 +67,8 @@ const WHILE_IDLE: [(usize, Kind); 36] = [
     (3, Generator::position_at_the_end),
     (3, Generator::absolute_limit),
     (2, Generator::long_rest),
+    (2, Generator::count_at_an_end),
+    (2, Generator::long_delay),
     (5, Generator::write_back),
     (6, Generator::any_inputs),
     (4, Generator::quiet_inputs),

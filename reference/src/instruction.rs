@@ -69,6 +69,9 @@ pub const CONDITIONS: [&str; 16] = [
 /// 01: "n is ±nnn within 8,388,607 each way"
 pub const MOST_STEPS: i32 = 8_388_607;
 
+/// 02, Slip 6: "Code 65 takes 0 to 8,388,607 milliseconds"
+pub const LONGEST_DELAY: u32 = 8_388_607;
+
 impl Cell {
     /// Reads the fields of a WN after its cell: code, parameters, next. 01: "Code 69 has no DDD,
     /// and its string ends after the 69."
@@ -248,7 +251,7 @@ impl Instruction {
             ConditionalJump { input, jump, .. } => {
                 usize::from(input) < CONDITIONS.len() && is_address(jump)
             }
-            TimeDelay { milliseconds } => milliseconds <= 65_535,
+            TimeDelay { milliseconds } => milliseconds <= LONGEST_DELAY,
         }
     }
 

@@ -9,7 +9,7 @@ use crate::memory::Drive;
 pub struct Totals {
     /// The true sum, up to 131 × 33,554,428 either way, and so beyond 32 bits.
     pub net: i64,
-    /// Milliseconds.
+    /// Milliseconds, up to 131 × 8,388,607.
     pub delay: u32,
 }
 

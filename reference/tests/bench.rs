@@ -1,14 +1,16 @@
 //! 01, "Bench strings and near misses", and the points on which 01 leaves a choice or is easily
 //! misread, each by a list of calls that tells the readings apart. A letter with a number, as in
 //! A1, names such an open point, and what follows is the reading that is taken; 4.1 is a point of
-//! 02's Slip 4. The notation is that of `common/lists.rs`. The console program has its own tests, in
-//! `console.rs`.
+//! 02's Slip 4, 6.1 one of its Slip 6. The notation is that of `common/lists.rs`. The console
+//! program has its own tests, in `console.rs`.
 
 #[path = "common/lists.rs"]
 mod lists;
 
 #[path = "bench/absolute.rs"]
 mod absolute;
+#[path = "bench/delays.rs"]
+mod delays;
 #[path = "bench/record.rs"]
 mod record;
 #[path = "bench/runs.rs"]

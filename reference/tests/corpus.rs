@@ -3,6 +3,8 @@
 
 #[path = "common/coverage.rs"]
 mod coverage;
+#[path = "common/delays.rs"]
+mod delays;
 #[path = "common/edits.rs"]
 mod edits;
 #[path = "common/images.rs"]
@@ -73,6 +75,21 @@ fn images_are_written_and_read_in_every_state_and_refused() {
 #[test]
 fn every_field_of_an_image_is_at_its_ends_and_beyond_them() {
     coverage::image_fields(&corpus(), 1);
+}
+
+#[test]
+fn delays_and_loop_counts_are_stored_at_their_ends() {
+    delays::ends(&corpus(), 1);
+}
+
+#[test]
+fn longer_delays_are_waited_in_stopped_resumed_and_kept() {
+    delays::happenings(&corpus(), 1);
+}
+
+#[test]
+fn older_gateways_refuse_longer_waits_and_read_the_others() {
+    delays::older_gateways(&corpus(), 1);
 }
 
 #[test]

@@ -10,7 +10,7 @@ mod images;
 mod lists;
 
 use cells::{WORKED, WRONG};
-use images::judged;
+use images::{fault_before, judged};
 use lists::{go_on, list};
 use reference::image::LONGEST;
 use reference::memory::Drive;
@@ -104,6 +104,23 @@ fn every_field_is_kept_at_both_ends() {
             let expected = fresh_with(&hex(bytes), address);
             assert_eq!(image(&drive), expected, "{text}");
             assert_eq!(Drive::load(&expected), Ok(drive), "{text}");
+        }
+    }
+}
+
+// 02, Slip 6: "Older images are read as before, byte for byte, since small numbers keep their groups.
+// An older gateway refuses an image with a longer wait by 10, and never shows a shorter one."
+#[test]
+fn an_older_gateway_reads_small_delays_and_refuses_longer_ones() {
+    for address in [100, 163, 227] {
+        let made = |delay: u32| image(&list(&format!("s 00WN,{address},65,{delay},000")));
+        for delay in [0, 127, 128, 16_383, 16_384, 65_535] {
+            assert_eq!(fault_before(&made(delay)), None, "{delay}");
+            assert!(taken(&made(delay)), "{delay}");
+        }
+        for delay in [65_536, 65_537, 131_071, 2_097_152, 8_388_607] {
+            assert_eq!(fault_before(&made(delay)).as_deref(), Some("65.1 above"), "{delay}");
+            assert!(taken(&made(delay)), "{delay}");
         }
     }
 }

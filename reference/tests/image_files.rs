@@ -118,6 +118,10 @@ const ZERO_SEARCHES_AND_DELAYED_STOPS: &str = "03,03,10,+,02,101 03,24,42,-,30,1
 const DELAYS_AND_LOOPS: &str = "65,0,101 65,1,102 65,127,103 65,128,104 65,16383,105 65,16384,106 \
     65,65535,107 61,1,108 61,127,109 61,128,110 61,16383,111 61,16384,112 61,65535,000";
 
+const LONGER_WAITS: &str = "65,65535,101 65,65536,102 61,65535,103 65,65537,104 \
+    11,05,+8388607,x4,105 65,2097151,106 65,2097152,107 62,103,108 65,8388606,109 65,8388607,110 \
+    61,65535,111 58,F7,1,112 65,131071,113 05,24,42,-,8388607,x4,114 65,8388607,230";
+
 const LINKS: &str = "00,228 60,229 62,228,230 63,I0,0,229,228 65,1,230 62,100,127 62,230,128 \
     63,F7,1,100,227";
 
@@ -142,6 +146,10 @@ fn whole() -> Vec<(&'static str, Vec<String>)> {
         ("presets-at-0", words("WS,IN,0 WS,RS,D0")),
         ("delays-and-loops-at-their-ends", words(DELAYS_AND_LOOPS)),
         ("delay-65535", words("65,65535,000")),
+        ("delay-65536", words("65,65536,000")),
+        ("delay-8388607", words("65,8388607,000")),
+        ("longer-waits", words(LONGER_WAITS)),
+        ("all-longest-waits", all("65,8388607,230")),
         ("links-to-228-to-230", words(LINKS)),
         ("label-feeder", (0..30).flat_map(stop).collect()),
         ("codes-01-and-02", words(CODES_01_AND_02)),
@@ -215,6 +223,8 @@ fn damaged() -> Vec<(&'static str, Vec<u8>)> {
         ("steps-8388608", with_cell(&[11, 5, 0x80, 0x80, 0x80, 8, 0, 0])),
         ("cam-unset-with-a-number", with_cell(&[57, 0, 2, 0])),
         ("loop-0", with_cell(&[61, 0, 0])),
-        ("delay-65536", with_cell(&[65, 0x80, 0x80, 4, 0])),
+        ("loop-65536", with_cell(&[61, 0x80, 0x80, 4, 0])),
+        ("delay-8388608", with_cell(&[65, 0x80, 0x80, 0x80, 4, 0])),
+        ("delay-2-to-the-24", with_cell(&[65, 0x80, 0x80, 0x80, 8, 0])),
     ]
 }

@@ -174,6 +174,7 @@ fn p4_1_11_note_1_fa_and_bs_can_not_be_set() {
     );
 }
 
+// "Maximum allowed time delay is 65535 milliseconds." 02 takes 8,388,607.
 #[test]
 fn p4_1_12_time_delay() {
     stored("12WN,120,65,4000,192", "12QM,120,65,4000,192");
@@ -181,7 +182,10 @@ fn p4_1_12_time_delay() {
         "F 12; s 12WN,120,65,4000,192; s 12WN,192,58,FC,1,000; s 12PS,120; W 4001 = spent 4001; \
          B = stand:1,0,0; M; B = stand:1,0,1",
     );
-    list("s 00WN,100,65,65535,000; s 00WN,100,65,65536,000 = 00N");
+    list(
+        "s 00WN,100,65,65535,000; s 00WN,100,65,65536,000; s 00WN,100,65,8388607,000; \
+         s 00WN,100,65,8388608,000 = 00N",
+    );
 }
 
 #[test]

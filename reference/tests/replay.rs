@@ -379,11 +379,15 @@ fn record_has_a_rest_for_an_indexed_run_or_a_65() {
     check(
         "sound",
         "c140 65 9 0; reccell 140; recrest 33554428
+         c140 65 8388607 0; reccell 140; recrest 8388607
+         c140 65 8388607 0; reccell 140; recrest 8388608
+         c140 65 8388607 0; reccell 140; recrest 33554428
          c140 65 9 0; reccell 140; recrest 0",
     );
     check(
         "unsound",
         "c140 65 9 0; reccell 140; recrest 33554429
+         c140 65 8388607 0; reccell 140; recrest 33554429
          c140 65 9 0; reccell 140; recrest 4294967295",
     );
     check("unrepresentable", "c140 65 9 0; reccell 140; recrest -1");
@@ -448,7 +452,7 @@ fn idle_drive_has_five_zeros() {
 type Phase = (u8, &'static str, &'static str);
 
 /// For each code its phases.
-const PHASES: [(&str, &[Phase]); 22] = [
+const PHASES: [(&str, &[Phase]); 23] = [
     ("0", &[(0, "0", "0")]),
     ("1 24 42 8388607 4", &[(0, "0", "0"), (2, "-+", "01"), (5, "-+", "01")]),
     ("31 240 42 -8388607 1", &[(0, "0", "0"), (2, "-+", "01"), (5, "-+", "01")]),
@@ -469,6 +473,7 @@ const PHASES: [(&str, &[Phase]); 22] = [
     ("63 15 1 230", &[(0, "0", "0")]),
     ("65 0", &[(0, "0", "0"), (1, "+", "0")]),
     ("65 65535", &[(0, "0", "0"), (1, "+", "0")]),
+    ("65 8388607", &[(0, "0", "0"), (1, "+", "0")]),
     ("69", &[(0, "0", "0")]),
     ("70 1", &[(0, "0", "0")]),
 ];
@@ -498,10 +503,17 @@ fn busy_drive_has_phase_rest_and_mark_of_its_code() {
 
 #[test]
 fn busy_rest_is_within_33554428() {
-    check("sound", "c150 65 9 0; cell 150; phase 1; rest 33554428");
+    check(
+        "sound",
+        "c150 65 9 0; cell 150; phase 1; rest 33554428
+         c150 65 8388607 0; cell 150; phase 1; rest 8388607
+         c150 65 8388607 0; cell 150; phase 1; rest 8388608
+         c150 65 8388607 0; cell 150; phase 1; rest 33554428",
+    );
     check(
         "unsound",
         "c150 65 9 0; cell 150; phase 1; rest 33554429
+         c150 65 8388607 0; cell 150; phase 1; rest 33554429
          c150 65 9 0; cell 150; phase 1; rest 4294967295
          c150 11 2 5 1 0; cell 150; phase 2; rest 33554429
          c150 11 2 5 1 0; cell 150; phase 2; rest -33554429
@@ -524,6 +536,9 @@ fn cells() {
          c100 58 0 0 0
          c100 63 0 0 100 0
          c100 61 65535 0
+         c100 65 65535 0
+         c100 65 65536 0
+         c100 65 8388607 0
          c100 70 0 0
          c100 60 0
          c100 21 4571 -8388607 4 0
@@ -542,7 +557,7 @@ fn cells() {
          c100 61 0 0
          c100 62 99 0
          c100 62 0 0
-         c100 65 65536 0
+         c100 65 8388608 0
          c100 65 4294967295 0
          c100 1 2 10 0 1 0
          c100 1 25 10 0 1 0
@@ -622,6 +637,7 @@ const READ_BACK: &str = "\
 63 3 1 100 0 => 63,PX,1,100,000
 63 15 0 101 0 => 63,F7,0,101,000
 65 0 0 => 65,0,000
+65 8388607 0 => 65,8388607,000
 69 0 => 69
 70 1 0 => 70,1,000";
 

@@ -105,6 +105,28 @@ fn only_delays_count_milliseconds() {
     assert_eq!(drive.totals(100), Ok(Totals { net: 0, delay: 8_585_085 }));
 }
 
+// 02, Slip 6: "Interrupted rests, delays and totals follow the new limit"
+#[test]
+fn totals_count_longer_delays() {
+    assert_eq!(summed("65,65535 65,65536"), (0, 131_071));
+    assert_eq!(summed("65,8388607 11,05,-8388607,x4 65,8388607 65,1"), (-33_554_428, 16_777_215));
+    let drive = repeated("65,8388607", 131);
+    assert_eq!(drive.totals(100), Ok(Totals { net: 0, delay: 1_098_907_517 }));
+    assert_eq!(drive.totals(229), Ok(Totals { net: 0, delay: 16_777_214 }));
+}
+
+#[test]
+fn a_longer_delay_lasts_what_its_totals_say() {
+    list(
+        "s 00WN,100,65,65536,101; s 00WN,101,65,70000,000; T 100 = +0,135536; s 00PS,100; \
+         W 1000000 = idle 135538",
+    );
+    list(
+        "s 00WN,100,65,8388607,000; s 00PS,100; M 3; T 100 = +0,8388607; s 00EE; \
+         s 00QR = 00QR,100,+8388605,0; T 100 = +0,8388607",
+    );
+}
+
 // The position has 32 bits and goes round; the net steps are a true sum.
 #[test]
 fn net_steps_go_beyond_32_bits() {

@@ -172,12 +172,12 @@ pub fn orders(drive: Drive, count: u32) -> u32 {
     sum
 }
 
-pub fn waits(drive: Drive, count: u32) -> u32 {
+pub fn waits(drive: Drive, budget: Milliseconds, count: u32) -> u32 {
     let mut d = drive;
     let mut sum: u32 = 0;
     let mut k: u32 = 0;
     while k < count {
-        let waited = d.wait(Milliseconds(1_000_000));
+        let waited = d.wait(budget);
         d = waited.drive;
         let ending = waited.ending;
         let refusal = waited.refusal;

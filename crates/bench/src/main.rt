@@ -12,6 +12,7 @@ use drive::Drive;
 use memory::Chain;
 use memory::chained;
 use sums::added;
+use units::Milliseconds;
 
 // An idle drive: a request that changes nothing stands for a start.
 fn idle() -> Drive {
@@ -25,6 +26,10 @@ fn looping() -> Drive {
 
 fn delaying() -> Drive {
     memory::started(b"00PS,210\r")
+}
+
+fn delaying_longest() -> Drive {
+    memory::started(b"00PS,211\r")
 }
 
 fn moving() -> Drive {
@@ -82,7 +87,7 @@ fn events(name: &[u8], count: u32) -> u32 {
     others(name, count)
 }
 
-// Calls that change nothing, and waits. The cells are read, and not timed.
+// Calls that change nothing. The cells are read, and not timed.
 fn others(name: &[u8], count: u32) -> u32 {
     if check::same(name, b"refused") {
         return calls::events(Event::Step, idle(), count);
@@ -93,14 +98,24 @@ fn others(name: &[u8], count: u32) -> u32 {
     if check::same(name, b"order") {
         return calls::orders(moving(), count);
     }
-    if check::same(name, b"wait") {
-        return calls::waits(looping(), count);
-    }
-    if check::same(name, b"long") {
-        return calls::waits(delaying(), count);
-    }
     if check::same(name, b"cells") {
         return calls::cells(idle());
+    }
+    waits(name, count)
+}
+
+fn waits(name: &[u8], count: u32) -> u32 {
+    if check::same(name, b"wait") {
+        return calls::waits(looping(), Milliseconds(1_000_000), count);
+    }
+    if check::same(name, b"long") {
+        return calls::waits(delaying(), Milliseconds(1_000_000), count);
+    }
+    if check::same(name, b"short") {
+        return calls::waits(delaying(), Milliseconds(60_000), count);
+    }
+    if check::same(name, b"longest") {
+        return calls::waits(delaying_longest(), Milliseconds(1_000_000), count);
     }
     images(name, count)
 }
@@ -177,8 +192,10 @@ fn all(count: u32) -> u32 {
     sum = added(sum, others(b"refused", count));
     sum = added(sum, others(b"halted", count));
     sum = added(sum, others(b"order", count));
-    sum = added(sum, others(b"wait", count));
-    sum = added(sum, others(b"long", count));
+    sum = added(sum, waits(b"wait", count));
+    sum = added(sum, waits(b"long", count));
+    sum = added(sum, waits(b"short", count));
+    sum = added(sum, waits(b"longest", count));
     sum = added(sum, others(b"cells", count));
     sum = added(sum, images(b"save", count));
     sum = added(sum, images(b"load", count));

@@ -6,7 +6,7 @@ use mathlib.Core.List.{List, [], _∷_}
 use lib.Dec.{eqb}
 use lib.ListN.{length, getD}
 use Rattle.laws.specs.Tests.{choose, either}
-use Rattle.units.specs.Limits.{stepLimit, delayLimit, loopLimit}
+use Rattle.units.specs.Limits.{stepLimit, delayLimit, delayLimitBefore, loopLimit}
 use Rattle.fields.specs.Kinds.{isSigned}
 use Rattle.fields.specs.declared.kinds.Kind.{Kind}
 use Rattle.fields.specs.declared.kinds.Kind.the-variants.{Fixed, Next, Count, Signed, Sign, Multiplier, Name}
@@ -39,13 +39,17 @@ steps = Signed stepLimit stepLimit
 abbrev pub count : Kind
 count = Count 0 stepLimit
 
--- 01: "61 nnn (1 to 65,535)"
+-- 01: "61 nnn (1 to 65,535)". 02: "loop counts stay at 65,535"
 abbrev pub loops : Kind
 loops = Count 1 loopLimit
 
--- 01: "65 nnn (0 to 65,535)"
+-- 02: "Code 65 takes 0 to 8,388,607 milliseconds"
 abbrev pub delay : Kind
 delay = Count 0 delayLimit
+
+-- 01: "65 nnn (0 to 65,535)", as it was before
+abbrev pub delayBefore : Kind
+delayBefore = Count 0 delayLimitBefore
 
 -- 01, of the 57: "±nnn", "32 bits signed"
 abbrev pub position : Kind
@@ -67,9 +71,9 @@ pub record Entry : Type 0 where
 abbrev pub entry : ℕ → List Kind → Entry
 entry c ks = record { code = c; fields = ks }
 
--- 01: "01 `FF,RR,n,XX`; 31 `FFF,RR,n,XX`; .." to "Code 69 has no DDD, and its string ends after the 69"
-abbrev pub formats : List Entry
-formats =
+-- 01: "01 `FF,RR,n,XX`; 31 `FFF,RR,n,XX`; .." to "Code 69 has no DDD, and its string ends after the 69", with the nnn of a 65
+abbrev pub formatsWith : Kind → List Entry
+formatsWith nnn =
     entry 1 (thousands ∷ ramp ∷ steps ∷ Multiplier ∷ Next ∷ []) ∷
     entry 31 (fine ∷ ramp ∷ steps ∷ Multiplier ∷ Next ∷ []) ∷
     entry 2 (thousands ∷ ramp ∷ Sign ∷ Multiplier ∷ Next ∷ []) ∷
@@ -86,11 +90,18 @@ formats =
     entry 61 (loops ∷ Next ∷ []) ∷
     entry 62 (cell ∷ Next ∷ []) ∷
     entry 63 (Name Conditions ∷ bit ∷ cell ∷ Next ∷ []) ∷
-    entry 65 (delay ∷ Next ∷ []) ∷
+    entry 65 (nnn ∷ Next ∷ []) ∷
     entry 70 (bit ∷ Next ∷ []) ∷
     entry 0 (Next ∷ []) ∷
     entry 69 [] ∷
     []
+
+abbrev pub formats : List Entry
+formats = formatsWith delay
+
+-- the table as it was before
+abbrev pub formatsBefore : List Entry
+formatsBefore = formatsWith delayBefore
 
 unfoldable pub fieldsIn : List Entry → ℕ → List Kind
 fieldsIn [] code = []
@@ -107,6 +118,17 @@ knownIn (e ∷ es) code = either (eqb code (e .code)) (knownIn es code)
 -- whether there is such a code
 unfoldable pub known : ℕ → Bool
 known code = knownIn formats code
+
+-- what one goes by who reads cells: which codes there are, and the fields of each
+pub record Codes : Type 0 where
+  pub known : ℕ → Bool
+  pub fields : ℕ → List Kind
+
+abbrev pub codes : Codes
+codes = record { known = known; fields = fieldsOf }
+
+abbrev pub codesBefore : Codes
+codesBefore = record { known = knownIn formatsBefore; fields = fieldsIn formatsBefore }
 
 -- ---- the outline of a row, by which the code of an image goes
 

@@ -1,8 +1,10 @@
 // A fresh drive from an image.
 ghost use mathlib.Core.Path.{_≡_};
 ghost use lib.ListN.{replicate};
+ghost use Rattle.format.specs.Formats.{codes};
 ghost use Rattle.packed.specs.Cells.{cellsFrom};
 ghost use Rattle.machine.specs.Record.{nullCell};
+ghost use Rattle.machine.specs.Soundness.{sound};
 ghost use Rattle.machine.specs.Images.{imageCells, notLoaded, loadedWith, loadedOf};
 ghost use Rattle.image.specs.Results.{handed};
 use crate::presets;
@@ -37,8 +39,8 @@ fn refused() -> Loaded
 
 // The drive with these presets and the cells from a place on, where nothing follows them.
 fn with_cells(bytes: &[u8], at: usize, presets: Presets) -> Loaded
-    ensures { λ r. ⌜ r ≡ handed (loadedWith (now (bytes .entry)) presets
-        (cellsFrom imageCells (now (bytes .entry)) at 0 (replicate 131 nullCell))) ⌝ }
+    ensures { λ r. ⌜ r ≡ handed (loadedWith sound (now (bytes .entry)) presets
+        (cellsFrom codes imageCells (now (bytes .entry)) at 0 (replicate 131 nullCell))) ⌝ }
 {
     let made = Drive::fresh(presets.address);
     let fresh = made.drive.machine;

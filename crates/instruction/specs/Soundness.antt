@@ -2,10 +2,12 @@
 -- Assumes nothing.
 use Prim.Native.Nat.{ℕ}
 use mathlib.Core.Bool.{Bool, true}
+use mathlib.Core.List.{List}
 use lib.Dec.{eqb, leb}
 use lib.IntN.{natAbs}
 use Rattle.laws.specs.Tests.{both, either}
 use Rattle.fields.specs.Rows.{allValid}
+use Rattle.fields.specs.declared.kinds.Kind.{Kind}
 use Rattle.units.specs.Limits.{stepLimit}
 use Rattle.units.specs.declared.Steps.{Steps}
 use Rattle.instruction.specs.Codes.{codeOf}
@@ -46,7 +48,10 @@ canonical (TimeDelay n) d = true
 canonical (CurrentSetting s) d = true
 canonical Null d = true
 
--- 01: "all fields lie in these ranges": each number is one that its field admits, in its stored form
+-- 01: "all fields lie in these ranges": each number is one that its field admits, in its stored form. By the fields of each code
+abbrev pub cellSoundBy : (ℕ → List Kind) → Cell → Bool
+cellSoundBy fields c =
+    both (allValid (fields (codeOf (c .instruction))) (numbersOf c)) (canonical (c .instruction) (c .next .0))
+
 unfoldable pub cellSound : Cell → Bool
-cellSound c =
-    both (allValid (fieldsOf (codeOf (c .instruction))) (numbersOf c)) (canonical (c .instruction) (c .next .0))
+cellSound c = cellSoundBy fieldsOf c

@@ -194,7 +194,7 @@ module _ (next : CellAddress) where
   unfolding cellSound allValid fieldsOf fieldsIn choose codeOf numbersWith valid isCell
   jump-cell i v j t = third _ _ _ _ (both-left _ _ t)
 
-  -- 01: "65 nnn (0 to 65,535)"
+  -- 02: "Code 65 takes 0 to 8,388,607 milliseconds"
   pub delay-cell : (n : Milliseconds) → cellSound (record { instruction = TimeDelay n; next = next }) ≡ true → n .0 ≤ delayLimit
   unfolding cellSound allValid fieldsOf fieldsIn choose codeOf numbersWith valid
   delay-cell n t = leb-true _ _ (both-right _ _ (both-left _ _ (both-left _ _ t)))

@@ -39,7 +39,7 @@ use Rattle.machine.proofs.Tests.{by-test}
 -- ---- a delay
 
 -- the same cell in a delay of which k milliseconds remain
-abbrev delaying : State → ℕ → State
+abbrev pub delaying : State → ℕ → State
 delaying s k = inPhase s Delay (Timed (record { 0 = k }))
 
 -- a millisecond of a delay that is not its last: one less remains
@@ -49,19 +49,19 @@ delay-step cells s k t =
     let less : suc (suc k) - 1 ≡ suc k = omega arith in
     choose-false _ _ _ t ∙ choose-false _ _ _ (lt-leb (suc (suc k)) 1 (omega arith)) ∙ ap (delaying s) less
 
-delay-unsettled : (s : State) (k : ℕ) → idle s ≡ false → settled (delaying s k) ≡ false
+pub delay-unsettled : (s : State) (k : ℕ) → idle s ≡ false → settled (delaying s k) ≡ false
 unfolding settled either idle moving
 delay-unsettled s k t = rw t
 
 -- how many milliseconds were given, and the state at the end
-abbrev cameTo : Waited → ℕ × State
+abbrev pub cameTo : Waited → ℕ × State
 cameTo w = (w .given, w .last)
 
-abbrev later : ℕ → ℕ × State → ℕ × State
+abbrev pub later : ℕ → ℕ × State → ℕ × State
 later j r = (r .0 + j, r .1)
 
 -- j milliseconds of a delay that has more
-wait-delay :
+pub wait-delay :
     (j k n : ℕ) (cells : List Cell) (s : State) → idle s ≡ false →
     cameTo (waitFrom (n + j) false cells (delaying s (suc (k + j)))) ≡ later j (cameTo (waitFrom n false cells (delaying s (suc k))))
 unfolding waitFrom

@@ -11,7 +11,7 @@ use Rattle.machine.specs.Operations as machine-Operations
 use Rattle.machine.specs.Images as machine-Images
 use Rattle.machine.specs.Cases.{send, replies}
 use Rattle.machine.specs.ImageCases.{padded, refusalOf, lengthOf, isRefused, answersSo, leaves, imageHolds, named, unheld}
-use Rattle.machine.specs.ImageCases.{ofWriting, ofBuffers, ofReading, ImageCases}
+use Rattle.machine.specs.ImageCases.{ofWriting, ofBuffers, ofReading, ofLongerWaits, ImageCases}
 use Rattle.machine.proofs.Computing.{computing}
 
 -- what the cases unfold
@@ -21,7 +21,7 @@ unfolding computing varint-Groups.groupsFrom varint-Groups.groups varint-Groups.
     packed-Rows.rowBytes packed-Rows.rowFrom packed-Rows.readRow packed-Cells.cellBytes packed-Cells.cellBy packed-Cells.cellAfter
     packed-Cells.cellIn packed-Cells.cellsBytes packed-Cells.cellsFrom machine-Operations.filled machine-Images.presetNumbers machine-Images.presetsFrom
     machine-Images.imageOf machine-Images.writtenInto machine-Images.bufferBy machine-Images.bufferWritten machine-Images.freshWith
-    machine-Images.holdsPresets machine-Images.loadedWith machine-Images.loadedAfter machine-Images.loadedOf
+    machine-Images.holdsPresets machine-Images.loadedWith machine-Images.loadedAfter machine-Images.loadedBy
     send replies padded refusalOf lengthOf isRefused answersSo leaves imageHolds named unheld
 imaging = tt
 
@@ -37,5 +37,10 @@ reading-holds : unheld ofReading ≡ []
 unfolding imaging ofReading
 reading-holds = refl
 
+longer-waits-hold : unheld ofLongerWaits ≡ []
+unfolding imaging ofLongerWaits
+longer-waits-hold = refl
+
 pub images-hold : ImageCases
-images-hold = record { writing = writing-holds; buffers = buffers-hold; reading = reading-holds }
+images-hold =
+    record { writing = writing-holds; buffers = buffers-hold; reading = reading-holds; longerWaits = longer-waits-hold }

@@ -15,7 +15,7 @@ use Rattle.laws.proofs.Tests.{both-left, both-right, both-true, choose-by, choo
 use Rattle.fields.specs.Kinds.{valid}
 use Rattle.fields.specs.Rows.{allValid}
 use Rattle.fields.specs.declared.rows.Parsed.{Parsed}
-use Rattle.format.specs.Formats.{fieldsOf, fieldsIn}
+use Rattle.format.specs.Formats.{fieldsOf, fieldsIn, codes}
 use Rattle.instruction.specs.Codes.{codeOf}
 use Rattle.instruction.specs.Numbers.{numbersWith}
 use Rattle.instruction.specs.Soundness.{canonical, cellSound}
@@ -30,7 +30,7 @@ use Rattle.machine.specs.Record.{nullCell}
 use Rattle.machine.specs.Soundness.{presetsSound, positionSound, camSound, faultSound, suspendedSound, isNothing, restingSound, runningSound, stateSound, sound}
 use Rattle.machine.specs.Operations.{Made}
 use Rattle.machine.specs.Operations.Made.{Drive}
-use Rattle.machine.specs.Images.{presetKinds, presetNumbers, presetsFrom, freshWith, holdsPresets, loadedWith, loadedAfter, loadedOf}
+use Rattle.machine.specs.Images.{presetKinds, presetNumbers, presetsFrom, freshWith, holdsPresets, loadedWith, loadedAfter, loadedBy, loadedOf}
 use Rattle.machine.specs.declared.Presets.{Presets}
 use Rattle.machine.specs.declared.Machine.{Machine}
 use Rattle.machine.proofs.Members.{every-append, every-front}
@@ -78,12 +78,12 @@ presets-read p rest h =
 
 cells-read :
     (cs : List Cell) (pre : List ℕ) → length cs ≡ 128 → every cellSound cs ≡ true →
-    cellsFrom 128 (pre ++ cellsBytes cs) (length pre) 0 (replicate 131 nullCell) ≡ Cells (memory cs) (length (pre ++ cellsBytes cs))
+    cellsFrom codes 128 (pre ++ cellsBytes cs) (length pre) 0 (replicate 131 nullCell) ≡ Cells (memory cs) (length (pre ++ cellsBytes cs))
 cells-read cs pre e t =
     let fresh = replicate 131 nullCell in
     let b = cellsBytes cs in
-    ap (λ (n : ℕ). cellsFrom n (pre ++ b) (length pre) 0 fresh) (sym e)
-    ∙ ap (λ (x : List ℕ). cellsFrom (length cs) (pre ++ x) (length pre) 0 fresh) (sym (append-nil b))
+    ap (λ (n : ℕ). cellsFrom codes n (pre ++ b) (length pre) 0 fresh) (sym e)
+    ∙ ap (λ (x : List ℕ). cellsFrom codes (length cs) (pre ++ x) (length pre) 0 fresh) (sym (append-nil b))
     ∙ cells-back cs pre [] 0 fresh t
     ∙ ap (λ (l : List Cell). Cells l (length pre + length b)) (sets-cells cs e)
     ∙ ap (Cells (memory cs)) (sym (length-append pre b))
@@ -97,13 +97,13 @@ own-presets p at h =
 pub bytes-back :
     (p : Presets) (cs : List Cell) → presetsSound p ≡ true → length cs ≡ 128 → every cellSound cs ≡ true →
     loadedOf (presetBytes p ++ cellsBytes cs) ≡ Drive (freshWith p (memory cs))
-unfolding loadedOf loadedAfter loadedWith
+unfolding loadedBy loadedAfter loadedWith
 bytes-back p cs h e t =
     let s = presetBytes p ++ cellsBytes cs in
-    ap (loadedAfter s) (presets-read p (cellsBytes cs) h)
+    ap (loadedAfter codes sound s) (presets-read p (cellsBytes cs) h)
     ∙ choose-true _ _ _ (own-presets p (length (presetBytes p)) h)
-    ∙ ap (loadedWith s (presetsFrom (presetNumbers p))) (cells-read cs (presetBytes p) e t)
-    ∙ ap (λ (q : Presets). loadedWith s q (Cells (memory cs) (length s))) (presets-back p h)
+    ∙ ap (loadedWith sound s (presetsFrom (presetNumbers p))) (cells-read cs (presetBytes p) e t)
+    ∙ ap (λ (q : Presets). loadedWith sound s q (Cells (memory cs) (length s))) (presets-back p h)
     ∙ choose-true _ _ _ (both-true (eq-eqb (length s) (length s) refl) (filled-sound p cs h t))
 
 -- ---- what is read was written
@@ -120,7 +120,7 @@ pub record Restores (s : List ℕ) (m : Machine) : Type 0 where
 
 restores :
     (s : List ℕ) (m : Machine) (p : Parsed) (cells : List Cell) (at : ℕ) → readRow presetKinds s 0 ≡ p → holdsPresets p ≡ true →
-    cellsFrom 128 s (p .at) 0 (replicate 131 nullCell) ≡ Cells cells at → at ≡ length s → sound (freshWith (presetsFrom (p .values)) cells) ≡ true →
+    cellsFrom codes 128 s (p .at) 0 (replicate 131 nullCell) ≡ Cells cells at → at ≡ length s → sound (freshWith (presetsFrom (p .values)) cells) ≡ true →
     freshWith (presetsFrom (p .values)) cells ≡ m → Restores s m
 unfolding holdsPresets sound stateSound freshWith
 restores s m p cells at r t c e g d =
@@ -148,7 +148,7 @@ restores s m p cells at r t c e g d =
 
 restores-cells :
     (s : List ℕ) (m : Machine) (p : Parsed) → readRow presetKinds s 0 ≡ p → holdsPresets p ≡ true → (r : ReadCells) →
-    cellsFrom 128 s (p .at) 0 (replicate 131 nullCell) ≡ r → loadedWith s (presetsFrom (p .values)) r ≡ Drive m → Restores s m
+    cellsFrom codes 128 s (p .at) 0 (replicate 131 nullCell) ≡ r → loadedWith sound s (presetsFrom (p .values)) r ≡ Drive m → Restores s m
 unfolding loadedWith
 restores-cells s m p e t NoCells c d = let z : _≡_ {A = ℕ} 0 1 = cc in absurd (omega arith)
 restores-cells s m p e t (Cells cells at) c d =
@@ -158,7 +158,7 @@ restores-cells s m p e t (Cells cells at) c d =
     (λ u v. let z : _≡_ {A = ℕ} 0 1 = cc in absurd (omega arith)) d
 
 pub loaded-restores : (s : List ℕ) (m : Machine) → loadedOf s ≡ Drive m → Restores s m
-unfolding loadedOf loadedAfter
+unfolding loadedBy loadedAfter
 loaded-restores s m d =
     choose-by (λ (x : Made). x ≡ Drive m → Restores s m) (holdsPresets (readRow presetKinds s 0))
     (λ t v. restores-cells s m (readRow presetKinds s 0) refl t _ refl v)

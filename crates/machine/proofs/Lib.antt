@@ -12,7 +12,8 @@
 -- Demand1: demand 1, the theorem. Demand2Hearing (what is heard of a WN and of other codes), Demand2Strings (what a WN leaves, and that nothing else
 -- changes a cell), Demand2Rows (which WN is answered Y), Demand2Frequency (the frequency of a 21 or 22), Demand2Settings (the other strings that store),
 -- Demand2: demand 2, the theorem.
--- Images: ImagePresets (the presets as a row), Images (written and read, both ways), MemoryImages (what images keep, the theorem), ImageCases (worked images).
+-- Images: ImagePresets (the presets as a row), Images (written and read, both ways), MemoryImages (what images keep, the theorem), OlderImages
+-- (what an older gateway makes of them), ImageCases (worked images). LongerWaits: 02, Slip 6, the theorem.
 pub mod Computing
 mod Starred
 mod Delays
@@ -55,4 +56,6 @@ pub mod Demand2
 mod ImagePresets
 mod Images
 mod MemoryImages
+mod OlderImages
+mod LongerWaits
 mod ImageCases

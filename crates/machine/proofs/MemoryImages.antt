@@ -21,7 +21,7 @@ use Rattle.machine.specs.Record.{nullCell}
 use Rattle.machine.specs.Soundness.{presetsSound, stateSound, sound}
 use Rattle.machine.specs.Operations.{filled, Made}
 use Rattle.machine.specs.Operations.Made.{NotMade, Drive}
-use Rattle.machine.specs.Images.{presetKinds, presetNumbers, imageOf, Written, writtenInto, bufferBy, bufferWritten, freshWith, notLoaded, holdsPresets, loadedWith, loadedAfter, loadedOf}
+use Rattle.machine.specs.Images.{presetKinds, presetNumbers, imageOf, Written, writtenInto, bufferBy, bufferWritten, freshWith, notLoaded, holdsPresets, loadedWith, loadedAfter, loadedBy, loadedOf}
 use Rattle.machine.specs.Images.Written.{Image}
 use Rattle.machine.specs.Invariant.{Kept}
 use Rattle.machine.specs.MemoryImages.{restored, SameMemory, Makes, MemoryImages}
@@ -101,16 +101,16 @@ same-bytes m n e =
 -- ---- which bytes are images
 
 -- reading gives 10 or a drive
-abbrev Either : Made → Type 0
+abbrev pub Either : Made → Type 0
 Either x = (x ≡ notLoaded) ⊎ ((m : Machine) × (x ≡ Drive m))
 
-cells-either : (s : List ℕ) (p : Presets) (r : ReadCells) → Either (loadedWith s p r)
+cells-either : (s : List ℕ) (p : Presets) (r : ReadCells) → Either (loadedWith sound s p r)
 unfolding loadedWith
 cells-either s p NoCells = inl refl
 cells-either s p (Cells cells at) = choose-by Either _ (λ t. inr (freshWith p cells, refl)) (λ t. inl refl)
 
-loaded-either : (s : List ℕ) → Either (loadedOf s)
-unfolding loadedOf loadedAfter
+pub loaded-either : (s : List ℕ) → Either (loadedOf s)
+unfolding loadedBy loadedAfter
 loaded-either s =
     choose-by Either (holdsPresets (readRow presetKinds s 0)) (λ t. cells-either s _ _) (λ t. inl refl)
 
@@ -124,7 +124,7 @@ loaded-image s m e =
     ∙ ap (λ (l : List Cell). rowBytes presetKinds (presetNumbers (r .presets)) ++ cellsBytes l) (take-append-seam cs (replicate 3 nullCell))
     ∙ r .bytes
 
-read-again : (s : List ℕ) (m : Machine) → loadedOf s ≡ Drive m → Kept m × Makes m s
+pub read-again : (s : List ℕ) (m : Machine) → loadedOf s ≡ Drive m → Kept m × Makes m s
 read-again s m e =
     let g = restored-good s m (loaded-restores s m e) in
     (good-kept m g, subst (Makes m) (loaded-image s m e) (image-makes m (good-sound m g)))

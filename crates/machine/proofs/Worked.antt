@@ -6,7 +6,7 @@ use Rattle.machine.specs.Cases.{send, replies}
 use Rattle.machine.specs.Worked.{signalsText, orderText, endText, endingText, comes, unmet}
 use Rattle.machine.specs.WorkedCases.{WorkedCases, ofStrings, ofStarts, ofCodes, ofCounts, ofRuns, ofStops, ofRecords}
 use Rattle.machine.specs.WorkedCases.{ofRecoveries, ofResumptions, ofOrders, ofRefusals, ofTargets, ofMultipliers, ofCommands, ofModes}
-use Rattle.machine.specs.WorkedCases.{ofInstructions, ofSearches, ofCams, ofPrograms, ofLoops}
+use Rattle.machine.specs.WorkedCases.{ofInstructions, ofSearches, ofCams, ofPrograms, ofLoops, ofDelays, ofBudgets}
 use Rattle.machine.proofs.Computing.{computing}
 use Rattle.machine.proofs.Delays.{beforeLast, leap, leapt, quickly, waitText, comesQuickly, unmetQuickly, unmet-quickly}
 
@@ -99,6 +99,17 @@ loops-quickly = refl
 loops-hold : unmet ofLoops ≡ []
 loops-hold = unmet-quickly ofLoops ∙ loops-quickly
 
+delays-hold : unmet ofDelays ≡ []
+unfolding working ofDelays
+delays-hold = refl
+
+budgets-quickly : unmetQuickly ofBudgets ≡ []
+unfolding working beforeLast leap leapt quickly waitText comesQuickly unmetQuickly ofBudgets
+budgets-quickly = refl
+
+budgets-hold : unmet ofBudgets ≡ []
+budgets-hold = unmet-quickly ofBudgets ∙ budgets-quickly
+
 pub worked-hold : WorkedCases
 worked-hold =
     record {
@@ -122,4 +133,6 @@ worked-hold =
       cams = cams-hold;
       programs = programs-hold;
       loops = loops-hold;
+      delays = delays-hold;
+      budgets = budgets-hold;
     }

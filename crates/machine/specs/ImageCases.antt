@@ -1,4 +1,4 @@
--- Worked images, from the sentences of 02, Slip 1: what the image of a drive is, what a buffer holds after it, and which bytes are read.
+-- Worked images, from the sentences of 02, Slips 1 and 6: what the image of a drive is, what a buffer holds after it, and which bytes are read.
 -- Assumes nothing.
 use Prim.Native.Nat.{ℕ, _-_}
 use Prim.Native.String.{String}
@@ -14,7 +14,7 @@ use Rattle.machine.specs.Calls.{Call, after}
 use Rattle.machine.specs.Operations.{Made}
 use Rattle.machine.specs.Operations.Made.{NotMade, Drive}
 use Rattle.machine.specs.Cases.{send, replies, bench}
-use Rattle.machine.specs.Images.{imageOf, Written, writtenInto, bufferWritten, loadedOf}
+use Rattle.machine.specs.Images.{imageOf, Written, writtenInto, bufferWritten, loadedOf, loadedBefore}
 use Rattle.machine.specs.Images.Written.{NotWritten, Image}
 use Rattle.machine.specs.declared.Machine.{Machine}
 
@@ -27,6 +27,9 @@ pub data ImageCase : Type 0 where
   Refuses : String → List ℕ → ImageCase
   -- the bytes are an image, and the drive answers a string so
   Gives : String → List ℕ → String → String → ImageCase
+  -- both, of an older gateway
+  RefusesBefore : String → List ℕ → ImageCase
+  GivesBefore : String → List ℕ → String → String → ImageCase
 
 -- bytes, and zeros up to a length
 unfoldable pub padded : List ℕ → ℕ → List ℕ
@@ -60,6 +63,8 @@ imageHolds (Holds s m front n) = sameNumbers (imageOf m) (padded front n)
 imageHolds (Leaves s m n refusal kept) = leaves m n refusal kept
 imageHolds (Refuses s b) = isRefused (loadedOf b)
 imageHolds (Gives s b q a) = answersSo (loadedOf b) q a
+imageHolds (RefusesBefore s b) = isRefused (loadedBefore b)
+imageHolds (GivesBefore s b q a) = answersSo (loadedBefore b) q a
 
 -- a fresh drive at 00 after strings
 abbrev pub told : List Call → Machine
@@ -70,6 +75,8 @@ named (Holds s m front n) = s
 named (Leaves s m n refusal kept) = s
 named (Refuses s b) = s
 named (Gives s b q a) = s
+named (RefusesBefore s b) = s
+named (GivesBefore s b q a) = s
 
 -- the sentences whose cases do not hold
 unfoldable pub unheld : List ImageCase → List String
@@ -138,7 +145,28 @@ ofReading =
     Refuses "2 to the 32" (padded (before (57 ∷ 1 ∷ 128 ∷ 128 ∷ 128 ∷ 128 ∷ 16 ∷ 0 ∷ [])) 267) ∷
     []
 
+-- ---- 02, Slip 6
+
+-- a fresh drive's image, but cell 100 is a 65 with these bytes of nnn, and DDD 000
+abbrev pub delayed : List ℕ → List ℕ
+delayed nnn = before ((65 ∷ nnn) ++ replicate 255 0)
+
+unfoldable pub ofLongerWaits : List ImageCase
+ofLongerWaits =
+    Holds "small numbers keep their groups" (told (send "00WN,100,65,65535,000" ∷ [])) (before (65 ∷ 255 ∷ 255 ∷ 3 ∷ 0 ∷ [])) 264 ∷
+    Holds "a longer wait takes a group more" (told (send "00WN,100,65,8388607,000" ∷ [])) (before (65 ∷ 255 ∷ 255 ∷ 255 ∷ 3 ∷ 0 ∷ [])) 265 ∷
+    Gives "Older images are read as before" (delayed (255 ∷ 255 ∷ 3 ∷ [])) "00QM,100" "00QM,100,65,65535,000" ∷
+    GivesBefore "Older images are read as before (by an older gateway)" (delayed (255 ∷ 255 ∷ 3 ∷ [])) "00QM,100" "00QM,100,65,65535,000" ∷
+    Gives "an image with a longer wait (65,536)" (delayed (128 ∷ 128 ∷ 4 ∷ [])) "00QM,100" "00QM,100,65,65536,000" ∷
+    Gives "an image with a longer wait (8,388,607)" (delayed (255 ∷ 255 ∷ 255 ∷ 3 ∷ [])) "00QM,100" "00QM,100,65,8388607,000" ∷
+    RefusesBefore "An older gateway refuses an image with a longer wait by 10 (65,536)" (delayed (128 ∷ 128 ∷ 4 ∷ [])) ∷
+    RefusesBefore "An older gateway refuses an image with a longer wait by 10 (8,388,607)" (delayed (255 ∷ 255 ∷ 255 ∷ 3 ∷ [])) ∷
+    Refuses "Code 65 takes 0 to 8,388,607 milliseconds (one more)" (delayed (128 ∷ 128 ∷ 128 ∷ 4 ∷ [])) ∷
+    Refuses "loop counts stay at 65,535" (before ((61 ∷ 128 ∷ 128 ∷ 4 ∷ []) ++ replicate 255 0)) ∷
+    []
+
 pub record ImageCases : Type 0 where
   pub writing : unheld ofWriting ≡ []
   pub buffers : unheld ofBuffers ≡ []
   pub reading : unheld ofReading ≡ []
+  pub longerWaits : unheld ofLongerWaits ≡ []

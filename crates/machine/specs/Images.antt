@@ -8,13 +8,15 @@ use lib.ListN.{length, take, getD, replicate}
 use Rattle.laws.specs.Tests.{choose, both}
 use Rattle.fields.specs.declared.kinds.Kind.{Kind}
 use Rattle.fields.specs.declared.rows.Parsed.{Parsed}
+use Rattle.format.specs.Formats.{Codes, codes, codesBefore}
 use Rattle.instruction.specs.Numbers.{byteOf, isOne, six, sameNumbers}
+use Rattle.instruction.specs.Soundness.{cellSoundBy}
 use Rattle.instruction.specs.declared.Cell.{Cell}
 use Rattle.packed.specs.Rows.{rowBytes, readRow}
 use Rattle.packed.specs.Cells.{cellsBytes, ReadCells, cellsFrom}
 use Rattle.packed.specs.Cells.ReadCells.{NoCells, Cells}
 use Rattle.machine.specs.Record.{nullCell, freshState, withPresets}
-use Rattle.machine.specs.Soundness.{sound}
+use Rattle.machine.specs.Soundness.{soundBy, sound}
 use Rattle.machine.specs.Commands.{presetKind, resolutionAt}
 use Rattle.machine.specs.Answers.{presetValue}
 use Rattle.machine.specs.Acting.{presetsOf}
@@ -75,22 +77,34 @@ abbrev pub notLoaded : Made
 notLoaded = NotMade 10
 
 -- the drive of these presets and cells. Bytes after the last cell are of no image; and the writer makes one for sound drives only
-unfoldable pub loadedWith : List ℕ → Presets → ReadCells → Made
-loadedWith s p NoCells = notLoaded
-loadedWith s p (Cells cells at) =
-    choose (both (eqb at (length s)) (sound (freshWith p cells))) (Drive (freshWith p cells)) notLoaded
+unfoldable pub loadedWith : (Machine → Bool) → List ℕ → Presets → ReadCells → Made
+loadedWith isSound s p NoCells = notLoaded
+loadedWith isSound s p (Cells cells at) =
+    choose (both (eqb at (length s)) (isSound (freshWith p cells))) (Drive (freshWith p cells)) notLoaded
 
 -- whether these are numbers of presets: those made of them have the same
 unfoldable pub holdsPresets : Parsed → Bool
 holdsPresets p = both (p .ok) (sameNumbers (presetNumbers (presetsFrom (p .values))) (p .values))
 
 -- 02: "Cells 228 to 230 aren't kept and are Null after reading"
-unfoldable pub loadedAfter : List ℕ → Parsed → Made
-loadedAfter s p =
+unfoldable pub loadedAfter : Codes → (Machine → Bool) → List ℕ → Parsed → Made
+loadedAfter t isSound s p =
     choose (holdsPresets p)
-    (loadedWith s (presetsFrom (p .values)) (cellsFrom imageCells s (p .at) 0 (replicate 131 nullCell)))
+    (loadedWith isSound s (presetsFrom (p .values)) (cellsFrom t imageCells s (p .at) 0 (replicate 131 nullCell)))
     notLoaded
 
--- the drive that the bytes of an image give, or the refusal
-unfoldable pub loadedOf : List ℕ → Made
-loadedOf s = loadedAfter s (readRow presetKinds s 0)
+-- the drive that the bytes of an image give, or the refusal, by the codes that the reader knows and the drives that are sound to it
+unfoldable pub loadedBy : Codes → (Machine → Bool) → List ℕ → Made
+loadedBy t isSound s = loadedAfter t isSound s (readRow presetKinds s 0)
+
+abbrev pub loadedOf : List ℕ → Made
+loadedOf s = loadedBy codes sound s
+
+-- ---- an older gateway
+
+-- 02: "An older gateway": one that knows the codes and judges cells by the table as it was before
+abbrev pub soundBefore : Machine → Bool
+soundBefore m = soundBy (cellSoundBy (codesBefore .fields)) m
+
+abbrev pub loadedBefore : List ℕ → Made
+loadedBefore s = loadedBy codesBefore soundBefore s

@@ -4,6 +4,7 @@
 -- Carrying out:        Starting, Taking (each code), Milliseconds, Stepping, Stopping (free run stop, emergency stop, PX), InputWords, Reports, Orders, Waiting.
 -- By operation:        Calls (each call with its refusals; lists of calls and what is seen of them), Operations (the answer buffer, fresh, board order).
 -- 02, Slip 1:          Images (what an image holds, written and read), MemoryImages (what images keep, as one statement), ImageCases (worked images).
+-- 02, Slip 6:          LongerWaits (what cells hold, what a wait leaves of a delay, what an older gateway makes of images, as one statement).
 -- What calls keep:     Invariant (sound drives, refusals, idle drives, waits, as one statement).
 -- The demands:         Demand1; Demand2; Reading (the 165 requests), Demand3.
 -- Bench strings:       Cases (the cases marked *).
@@ -28,6 +29,7 @@ pub mod Operations
 pub mod Images
 pub mod Invariant
 pub mod MemoryImages
+pub mod LongerWaits
 pub mod Reading
 pub mod Demand3
 pub mod Demand1

@@ -213,5 +213,9 @@ stateSound cells s =
     (both (faultSound (s .fault))
     (both (suspendedSound cells (s .suspended)) (runningSound cells (s .running))))))
 
+-- by what a cell may hold
+abbrev pub soundBy : (Cell → Bool) → Machine → Bool
+soundBy cell m = both (every cell (m .cells)) (stateSound (m .cells) (m .state))
+
 unfoldable pub sound : Machine → Bool
-sound m = both (every cellSound (m .cells)) (stateSound (m .cells) (m .state))
+sound m = soundBy cellSound m

@@ -1,4 +1,4 @@
--- Worked cases: what must come after a list of calls, from the sentences of 01 and of 02's Slip 4, and from the examples of chapters 3 to 5 of 001, which are
+-- Worked cases: what must come after a list of calls, from the sentences of 01 and of 02's Slips 4 and 6, and from the examples of chapters 3 to 5 of 001, which are
 -- given here at address 00 and in 01's forms. A case is named by its sentence or paragraph; " .. " leaves words out. The form of a case is in Worked.
 -- Assumes nothing.
 use Prim.Native.Nat.{ℕ, _+_}
@@ -303,6 +303,36 @@ ofLoops =
     (Waits 20000 "moving 10052") ∷
     []
 
+-- ---- 02, Slip 6
+
+-- what a 65 and a 61 take, and what remains of a delay
+unfoldable pub ofDelays : List Worked
+ofDelays =
+    Case "Code 65 takes 0 to 8,388,607 milliseconds (0)" [] (Answer "00WN,100,65,0,000" "00Y") ∷
+    Case "Code 65 takes 0 to 8,388,607 milliseconds (65,536)" (send "00WN,100,65,65536,000" ∷ []) (Answer "00QM,100" "00QM,100,65,65536,000") ∷
+    Case "Code 65 takes 0 to 8,388,607 milliseconds (8,388,607)" (send "00WN,100,65,8388607,000" ∷ [])
+    (Answer "00QM,100" "00QM,100,65,8388607,000") ∷
+    Case "Code 65 takes 0 to 8,388,607 milliseconds (one more)" [] (Answer "00WN,100,65,8388608,000" "00N") ∷
+    Case "loop counts stay at 65,535 (65,535)" [] (Answer "00WN,100,61,65535,000" "00Y") ∷
+    Case "loop counts stay at 65,535 (one more)" [] (Answer "00WN,100,61,65536,000" "00N") ∷
+    Case "Interrupted rests .. follow the new limit" (send "00WN,100,65,8388607,000" ∷ send "00PS,100" ∷ Wait 3 ∷ send "00EE" ∷ [])
+    (Answer "00QR" "00QR,100,+8388605,0") ∷
+    Case "delays .. follow the new limit (resumed by a 69)"
+    (send "00WN,100,65,8388607,000" ∷ send "00WN,101,69" ∷ send "00PS,100" ∷ Wait 3 ∷ send "00EE" ∷ send "00PS,101" ∷ Wait 3 ∷ send "00EE" ∷ [])
+    (Answer "00QR" "00QR,100,+8388603,0") ∷
+    Case "a drive that holds such a cell is sound" (send "00WN,100,65,8388607,000" ∷ []) (Refusal Millisecond 0) ∷
+    []
+
+-- waits over longer delays
+unfoldable pub ofBudgets : List Worked
+ofBudgets =
+    Case "the budget of a wait keeps its own (a delay of 8,388,607)" (send "00WN,100,65,8388607,000" ∷ send "00PS,100" ∷ [])
+    (Waits 1000000 "spent 1000000") ∷
+    Case "the budget of a wait keeps its own (a delay of 999,999)" (send "00WN,100,65,999999,000" ∷ send "00PS,100" ∷ [])
+    (Waits 1000000 "idle 1000000") ∷
+    Case "the budget of a wait keeps its own (1,000,001)" (send "00WN,100,65,8388607,000" ∷ send "00PS,100" ∷ []) (Refusal (Wait 1000001) 8) ∷
+    []
+
 -- ---- every case holds
 
 pub record WorkedCases : Type 0 where
@@ -326,3 +356,5 @@ pub record WorkedCases : Type 0 where
   pub cams : unmet ofCams ≡ []
   pub programs : unmet ofPrograms ≡ []
   pub loops : unmet ofLoops ≡ []
+  pub delays : unmet ofDelays ≡ []
+  pub budgets : unmet ofBudgets ≡ []

@@ -9,6 +9,7 @@ ghost use Rattle.machine.specs.Demand3.{Demand3};
 ghost use Rattle.machine.specs.ImageCases.{ImageCases};
 ghost use Rattle.machine.specs.Invariant.{Invariant};
 ghost use Rattle.machine.specs.MemoryImages.{MemoryImages};
+ghost use Rattle.machine.specs.LongerWaits.{LongerWaits};
 ghost use Rattle.machine.specs.WorkedCases.{WorkedCases};
 
 // A fresh drive is sound, and so is one read from an image; every call keeps a sound drive sound, a
@@ -48,6 +49,14 @@ pub fn demand_three()
 // bytes that the writer makes for no drive. The statement is in specs/MemoryImages.antt.
 pub fn memory_images()
     ensures { λ r. ⌜ MemoryImages ⌝ }
+{}
+
+// 02, Slip 6: a 65 takes 0 to 8,388,607 and a 61 no more than before; whatever a gateway of before
+// took as an image is taken as the same drive, and written again as the same bytes; such a gateway
+// refuses by 10 exactly the images with a wait longer than it knew; and a wait that is shorter than
+// a delay is spent, with the rest right. The statement is in specs/LongerWaits.antt.
+pub fn longer_waits()
+    ensures { λ r. ⌜ LongerWaits ⌝ }
 {}
 
 // Each case that 01 marks with a star holds. The table is in specs/Cases.antt.

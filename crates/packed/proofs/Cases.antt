@@ -19,7 +19,7 @@ use Rattle.fields.specs.Kinds.{isSigned, nextOf, signOf, multiplierDigit, multi
 use Rattle.fields.specs.Rows.{fieldsFrom, parseFields, ended, parseAll, printFields}
 use Rattle.varint.specs.Groups.{groupsFrom, groups, behind, readFrom, bounded, numberAt}
 use Rattle.varint.specs.Signs.{folded, unfolded}
-use Rattle.format.specs.Formats.{fieldsIn, fieldsOf, knownIn, known}
+use Rattle.format.specs.Formats.{fieldsIn, fieldsOf, knownIn, known, codes}
 use Rattle.instruction.specs.Codes.{codeOf}
 use Rattle.instruction.specs.Numbers.{travelOf, numbersWith, camOf, cellWith, cellOf, sameNumbers}
 use Rattle.instruction.specs.Texts.{cellText, sentFields, sentCode, sentCell}
@@ -55,6 +55,10 @@ cases =
     ∷ (",58,FC,1,000", 58 ∷ 4 ∷ 1 ∷ 0 ∷ [])
     ∷ (",63,F7,0,230,100", 63 ∷ 15 ∷ 0 ∷ 230 ∷ 1 ∷ 100 ∷ [])
     ∷ (",61,65535,000", 61 ∷ 255 ∷ 255 ∷ 3 ∷ 0 ∷ [])
+    -- 02, of longer waits: "small numbers keep their groups"
+    ∷ (",65,65535,000", 65 ∷ 255 ∷ 255 ∷ 3 ∷ 0 ∷ [])
+    ∷ (",65,65536,000", 65 ∷ 128 ∷ 128 ∷ 4 ∷ 0 ∷ [])
+    ∷ (",65,8388607,000", 65 ∷ 255 ∷ 255 ∷ 255 ∷ 3 ∷ 0 ∷ [])
     ∷ (",60,100", 60 ∷ 100 ∷ [])
     ∷ (",00,000", 0 ∷ 0 ∷ [])
     -- 01: "Code 69 has no DDD": its code alone
@@ -75,7 +79,7 @@ shown (Held c next) = next ∷ cellText c
 shown Wrong = []
 
 cases-read :
-    map (λ (c : String × List ℕ). shown (cellIn (c .1 ++ 7 ∷ []) 0)) cases
+    map (λ (c : String × List ℕ). shown (cellIn codes (c .1 ++ 7 ∷ []) 0)) cases
     ≡ map (λ (c : String × List ℕ). length (c .1) ∷ bytes (c .0)) cases
 unfolding computing shown cases
 cases-read = refl
@@ -89,6 +93,8 @@ refused =
     -- a 57 with V 0 and +1; a position of more than 32 bits
     ∷ (57 ∷ 0 ∷ 2 ∷ 0 ∷ [])
     ∷ (57 ∷ 1 ∷ 255 ∷ 255 ∷ 255 ∷ 255 ∷ 16 ∷ 0 ∷ [])
+    -- a loop count of 65,536
+    ∷ (61 ∷ 128 ∷ 128 ∷ 4 ∷ 0 ∷ [])
     -- DDD 256, which no cell holds
     ∷ (60 ∷ 128 ∷ 2 ∷ [])
     -- no such code
@@ -107,6 +113,6 @@ isWrong : ReadCell → Bool
 isWrong (Held c next) = false
 isWrong Wrong = true
 
-cases-refused : every (λ (s : List ℕ). isWrong (cellIn s 0)) refused ≡ true
+cases-refused : every (λ (s : List ℕ). isWrong (cellIn codes s 0)) refused ≡ true
 unfolding computing isWrong refused
 cases-refused = refl

@@ -18,7 +18,7 @@ use Rattle.varint.specs.Groups.{groups, numberAt}
 use Rattle.varint.specs.declared.groups.Reading.{Reading}
 use Rattle.varint.specs.declared.groups.Reading.the-variants.{Found, Refused}
 use Rattle.varint.proofs.RoundTrip.{length-groups, number-back, number-stands}
-use Rattle.format.specs.Formats.{fieldsOf, known}
+use Rattle.format.specs.Formats.{fieldsOf, known, codes}
 use Rattle.format.proofs.Entries.{formats-good, formats-few, known-by}
 use Rattle.instruction.specs.Codes.{codeOf}
 use Rattle.instruction.specs.Numbers.{numbersOf, cellOf, sameNumbers}
@@ -67,7 +67,7 @@ by-own c at s =
 
 pub cell-back :
     (c : Cell) (pre rest : List ℕ) → cellSound c ≡ true →
-    cellIn (pre ++ (cellBytes c ++ rest)) (length pre) ≡ Held c (length pre + length (cellBytes c))
+    cellIn codes (pre ++ (cellBytes c ++ rest)) (length pre) ≡ Held c (length pre + length (cellBytes c))
 unfolding cellBytes cellIn cellSound
 cell-back c pre rest s =
     let code = codeOf (c .instruction) in
@@ -76,8 +76,8 @@ cell-back c pre rest s =
     let p = rowBytes ks (numbersOf c) in
     let few : length ks ≤ length (numbersOf c) = omega (arith, length-numbers c, formats-few code) in
     let end : length (pre ++ g) + length p ≡ length pre + length (g ++ p) = omega (arith, length-append pre g, length-append g p) in
-    ap (λ (x : List ℕ). cellAfter (pre ++ x) (numberAt (pre ++ x) (length pre))) (append-assoc g p rest)
-    ∙ ap (cellAfter (pre ++ (g ++ (p ++ rest)))) (number-back code pre (p ++ rest) (code-small (c .instruction)))
+    ap (λ (x : List ℕ). cellAfter codes (pre ++ x) (numberAt (pre ++ x) (length pre))) (append-assoc g p rest)
+    ∙ ap (cellAfter codes (pre ++ (g ++ (p ++ rest)))) (number-back code pre (p ++ rest) (code-small (c .instruction)))
     ∙ after-known (pre ++ (g ++ (p ++ rest))) code (length pre + length g) (known-code (c .instruction))
     ∙ ap (λ (x : List ℕ). cellBy code (readRow ks x (length pre + length g))) (sym (append-assoc pre g (p ++ rest)))
     ∙ ap (λ (n : ℕ). cellBy code (readRow ks ((pre ++ g) ++ (p ++ rest)) n)) (sym (length-append pre g))
@@ -107,7 +107,7 @@ stands s at code n c next p e k q b h =
     ∙ sym (append-assoc (groups code) (rowBytes ks (p .values)) (drop (p .at) s))
     ∙ ap (λ (z : List ℕ). z ++ drop (p .at) s) whole ∙ ap (λ (m : ℕ). cellBytes c ++ drop m s) j
 
-pub cell-stands : (s : List ℕ) (at : ℕ) (c : Cell) (next : ℕ) → cellIn s at ≡ Held c next → drop at s ≡ cellBytes c ++ drop next s
+pub cell-stands : (s : List ℕ) (at : ℕ) (c : Cell) (next : ℕ) → cellIn codes s at ≡ Held c next → drop at s ≡ cellBytes c ++ drop next s
 unfolding cellIn cellAfter cellBy
 cell-stands s at c next = by-number (numberAt s at) refl
   where
@@ -117,7 +117,7 @@ cell-stands s at c next = by-number (numberAt s at) refl
     wrong : Right Wrong
     wrong h = let z : _≡_ {A = ℕ} 0 1 = cc in absurd (omega arith)
 
-    by-number : (r : Reading) → numberAt s at ≡ r → Right (cellAfter s r)
+    by-number : (r : Reading) → numberAt s at ≡ r → Right (cellAfter codes s r)
     by-number Refused e = wrong
     by-number (Found code n) e =
         choose-by Right _ (λ k. choose-by Right _ (λ b. stands s at code n c next (readRow (fieldsOf code) s n) e k refl b) (λ b. wrong)) (λ k. wrong)
@@ -131,14 +131,14 @@ length-cells (c ∷ cs) = omega (arith, length-append (cellBytes c) (cellsBytes 
 
 -- one cell more
 cells-step :
-    (n : ℕ) (s : List ℕ) (at i : ℕ) (l : List Cell) (c : Cell) (next : ℕ) → cellIn s at ≡ Held c next →
-    cellsFrom (suc n) s at i l ≡ cellsFrom n s next (suc i) (set l i c)
+    (n : ℕ) (s : List ℕ) (at i : ℕ) (l : List Cell) (c : Cell) (next : ℕ) → cellIn codes s at ≡ Held c next →
+    cellsFrom codes (suc n) s at i l ≡ cellsFrom codes n s next (suc i) (set l i c)
 unfolding cellsFrom
-cells-step n s at i l c next e = ap (λ (r : ReadCell). onCell r (λ c next. cellsFrom n s next (suc i) (set l i c))) e
+cells-step n s at i l c next e = ap (λ (r : ReadCell). onCell r (λ c next. cellsFrom codes n s next (suc i) (set l i c))) e
 
 pub cells-back :
     (cs : List Cell) (pre rest : List ℕ) (i : ℕ) (l : List Cell) → every cellSound cs ≡ true →
-    cellsFrom (length cs) (pre ++ (cellsBytes cs ++ rest)) (length pre) i l
+    cellsFrom codes (length cs) (pre ++ (cellsBytes cs ++ rest)) (length pre) i l
     ≡ Cells (sets l i cs) (length pre + length (cellsBytes cs))
 unfolding cellsFrom cellsBytes every
 cells-back [] pre rest i l t = ap (Cells l) (omega arith)
@@ -147,10 +147,10 @@ cells-back (c ∷ cs) pre rest i l t =
     let r = cellsBytes cs in
     let long : length (pre ++ b) ≡ length pre + length b = length-append pre b in
     let s = pre ++ (b ++ (r ++ rest)) in
-    ap (λ (x : List ℕ). cellsFrom (suc (length cs)) (pre ++ x) (length pre) i l) (append-assoc b r rest)
+    ap (λ (x : List ℕ). cellsFrom codes (suc (length cs)) (pre ++ x) (length pre) i l) (append-assoc b r rest)
     ∙ cells-step (length cs) s (length pre) i l c (length pre + length b) (cell-back c pre (r ++ rest) (both-left _ _ t))
-    ∙ ap (λ (x : List ℕ). cellsFrom (length cs) x (length pre + length b) (suc i) (set l i c)) (sym (append-assoc pre b (r ++ rest)))
-    ∙ ap (λ (a : ℕ). cellsFrom (length cs) ((pre ++ b) ++ (r ++ rest)) a (suc i) (set l i c)) (sym long)
+    ∙ ap (λ (x : List ℕ). cellsFrom codes (length cs) x (length pre + length b) (suc i) (set l i c)) (sym (append-assoc pre b (r ++ rest)))
+    ∙ ap (λ (a : ℕ). cellsFrom codes (length cs) ((pre ++ b) ++ (r ++ rest)) a (suc i) (set l i c)) (sym long)
     ∙ cells-back cs (pre ++ b) rest (suc i) (set l i c) (both-right _ _ t)
     ∙ ap (Cells (sets l i (c ∷ cs))) (omega (arith, long, length-append b r))
 
@@ -178,12 +178,12 @@ stand-step n s at i l cells c next end d h =
 on-stand :
     (n : ℕ) (s : List ℕ) (at i : ℕ) (l cells : List Cell) (end : ℕ) (f : Cell → ℕ → ReadCells) →
     ((c : Cell) (next : ℕ) → f c next ≡ Cells cells end → CellsStand n s next (suc i) (set l i c) cells end) →
-    (r : ReadCell) → cellIn s at ≡ r → onCell r f ≡ Cells cells end → CellsStand (suc n) s at i l cells end
+    (r : ReadCell) → cellIn codes s at ≡ r → onCell r f ≡ Cells cells end → CellsStand (suc n) s at i l cells end
 on-stand n s at i l cells end f h (Held c next) e t = stand-step n s at i l cells c next end (cell-stands s at c next e) (h c next t)
 on-stand n s at i l cells end f h Wrong e t = let z : _≡_ {A = ℕ} 0 1 = cc in absurd (omega arith)
 
 pub cells-stand :
-    (n : ℕ) (s : List ℕ) (at i : ℕ) (l cells : List Cell) (next : ℕ) → cellsFrom n s at i l ≡ Cells cells next →
+    (n : ℕ) (s : List ℕ) (at i : ℕ) (l cells : List Cell) (next : ℕ) → cellsFrom codes n s at i l ≡ Cells cells next →
     CellsStand n s at i l cells next
 unfolding cellsFrom cellsBytes
 cells-stand zero s at i l cells end t =
@@ -191,5 +191,5 @@ cells-stand zero s at i l cells end t =
     let there : at ≡ end = cc in
     record { ws = []; many = refl; stored = sym same; bytes = ap (λ (k : ℕ). drop k s) there }
 cells-stand (suc n) s at i l cells end t =
-    on-stand n s at i l cells end (λ c next. cellsFrom n s next (suc i) (set l i c))
-    (λ c next. cells-stand n s next (suc i) (set l i c) cells end) (cellIn s at) refl t
+    on-stand n s at i l cells end (λ c next. cellsFrom codes n s next (suc i) (set l i c))
+    (λ c next. cells-stand n s next (suc i) (set l i c) cells end) (cellIn codes s at) refl t

@@ -13,7 +13,7 @@ use Rattle.laws.proofs.Joins.{both-false-left, both-false-right}
 use Rattle.fields.specs.declared.rows.Parsed.{Parsed}
 use Rattle.varint.specs.Groups.{groups, numberAt}
 use Rattle.varint.specs.declared.groups.Reading.the-variants.{Found, Refused}
-use Rattle.format.specs.Formats.{fieldsOf, known, fieldCount, signedPlace}
+use Rattle.format.specs.Formats.{fieldsOf, known, fieldCount, signedPlace, codes}
 use Rattle.format.proofs.Entries.{formats-few}
 use Rattle.instruction.specs.Codes.{codeOf}
 use Rattle.instruction.specs.Numbers.{numbersOf, cellOf, sameNumbers}
@@ -29,12 +29,12 @@ use Rattle.packed.proofs.Outlines.{laid-row, laid-read, codes-agree, kn
 
 -- ---- reading
 
-pub cell-refused : (s : List ℕ) (at : ℕ) → numberAt s at ≡ Refused → cellIn s at ≡ Wrong
+pub cell-refused : (s : List ℕ) (at : ℕ) → numberAt s at ≡ Refused → cellIn codes s at ≡ Wrong
 unfolding cellIn cellAfter
-cell-refused s at e = ap (cellAfter s) e
+cell-refused s at e = ap (cellAfter codes s) e
 
 pub after-known :
-    (s : List ℕ) (code next : ℕ) → known code ≡ true → cellAfter s (Found code next) ≡ cellBy code (readRow (fieldsOf code) s next)
+    (s : List ℕ) (code next : ℕ) → known code ≡ true → cellAfter codes s (Found code next) ≡ cellBy code (readRow (fieldsOf code) s next)
 unfolding cellAfter
 after-known s code next k = choose-true _ _ Wrong k
 
@@ -49,9 +49,9 @@ unfolding fieldCount
 few-known code = choose-by (λ (n : ℕ). n ≤ 6 → known code ≡ true) (known code) (λ t h. t) (λ t h. absurd (omega arith))
 
 pub cell-unknown :
-    (s : List ℕ) (at code next : ℕ) {count : ℕ} → numberAt s at ≡ Found code next → count ≡ fieldCount code → 6 < count → cellIn s at ≡ Wrong
+    (s : List ℕ) (at code next : ℕ) {count : ℕ} → numberAt s at ≡ Found code next → count ≡ fieldCount code → 6 < count → cellIn codes s at ≡ Wrong
 unfolding cellIn cellAfter
-cell-unknown s at code next e c h = ap (cellAfter s) e ∙ choose-false _ _ Wrong (many-unknown code (omega (arith, c)))
+cell-unknown s at code next e c h = ap (cellAfter codes s) e ∙ choose-false _ _ Wrong (many-unknown code (omega (arith, c)))
 
 -- the row of a code, read by its outline
 row-read :
@@ -65,11 +65,11 @@ row-read code s from {count} {signed} k c d =
 
 pub cell-known :
     (s : List ℕ) (at code next : ℕ) {count signed : ℕ} {p : Parsed} → numberAt s at ≡ Found code next → count ≡ fieldCount code → count ≤ 6 →
-    signed ≡ signedPlace (fieldsOf code) → p ≡ laidRead count signed s next → cellIn s at ≡ cellBy code p
+    signed ≡ signedPlace (fieldsOf code) → p ≡ laidRead count signed s next → cellIn codes s at ≡ cellBy code p
 unfolding cellIn
 cell-known s at code next e c h d q =
     let k : known code ≡ true = few-known code (omega (arith, c)) in
-    ap (cellAfter s) e ∙ after-known s code next k ∙ ap (cellBy code) (row-read code s next k c d ∙ sym q)
+    ap (cellAfter codes s) e ∙ after-known s code next k ∙ ap (cellBy code) (row-read code s next k c d ∙ sym q)
 
 -- the row is wrong; its numbers are of no cell, or of one
 pub by-refused : (code : ℕ) (r : Next) (vs : List ℕ) → r ≡ next.Wrong → cellBy code (parsedAs r vs) ≡ Wrong

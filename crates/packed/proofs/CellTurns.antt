@@ -7,6 +7,7 @@ use mathlib.Core.Path.{_≡_, ap, sym, _∙_}
 use mathlib.Core.List.{List, [], _++_}
 use lib.ListN.{length, getD, take, drop, set}
 use lib.Seq.{drop-cons}
+use Rattle.format.specs.Formats.{codes}
 use Rattle.instruction.specs.Numbers.{cellOf}
 use Rattle.instruction.specs.declared.Instruction.the-variants.{Null}
 use Rattle.instruction.specs.declared.Cell.{Cell}
@@ -46,31 +47,31 @@ cells-end n i cells h =
     ap (λ (k : ℕ). cellsBytes (take k (drop i cells))) e
 
 -- what reading a cell's numbers tells
-pub coded-wrong : (s : List ℕ) (at : ℕ) (r : Coded) (vs : List ℕ) → codedAs r vs ≡ cellIn s at → r ≡ coded.Wrong → cellIn s at ≡ Wrong
+pub coded-wrong : (s : List ℕ) (at : ℕ) (r : Coded) (vs : List ℕ) → codedAs r vs ≡ cellIn codes s at → r ≡ coded.Wrong → cellIn codes s at ≡ Wrong
 unfolding codedAs
 coded-wrong s at r vs e q = sym e ∙ ap (λ (x : Coded). codedAs x vs) q
 
 pub coded-held :
-    (s : List ℕ) (at : ℕ) (r : Coded) (vs : List ℕ) (code next : ℕ) {c : Cell} → codedAs r vs ≡ cellIn s at → r ≡ coded.Numbers code next →
-    c ≡ cellOf code vs → cellIn s at ≡ Held c next
+    (s : List ℕ) (at : ℕ) (r : Coded) (vs : List ℕ) (code next : ℕ) {c : Cell} → codedAs r vs ≡ cellIn codes s at → r ≡ coded.Numbers code next →
+    c ≡ cellOf code vs → cellIn codes s at ≡ Held c next
 unfolding codedAs
 coded-held s at r vs code next e q d = sym e ∙ ap (λ (x : Coded). codedAs x vs) q ∙ ap (λ (x : Cell). Held x next) (sym d)
 
 -- reading: all cells; a cell is wrong, or it is held; none is left
-pub from-start : (n : ℕ) (s : List ℕ) (at : ℕ) (l : List Cell) → cellsFrom n s at 0 l ≡ cellsFrom (n - 0) s at 0 l
-from-start n s at l = ap (λ (k : ℕ). cellsFrom k s at 0 l) (sym (none-less n))
+pub from-start : (n : ℕ) (s : List ℕ) (at : ℕ) (l : List Cell) → cellsFrom codes n s at 0 l ≡ cellsFrom codes (n - 0) s at 0 l
+from-start n s at l = ap (λ (k : ℕ). cellsFrom codes k s at 0 l) (sym (none-less n))
 
 pub from-wrong :
-    (n : ℕ) (s : List ℕ) (at i : ℕ) (l : List Cell) → i < n → cellIn s at ≡ Wrong → cellsFrom (n - i) s at i l ≡ NoCells
+    (n : ℕ) (s : List ℕ) (at i : ℕ) (l : List Cell) → i < n → cellIn codes s at ≡ Wrong → cellsFrom codes (n - i) s at i l ≡ NoCells
 unfolding cellsFrom
-from-wrong n s at i l h e = ap (λ (k : ℕ). cellsFrom k s at i l) (less n i h) ∙ rw e
+from-wrong n s at i l h e = ap (λ (k : ℕ). cellsFrom codes k s at i l) (less n i h) ∙ rw e
 
 pub from-next :
-    (n : ℕ) (s : List ℕ) (at i : ℕ) (l : List Cell) {c : Cell} {next : ℕ} → i < n → cellIn s at ≡ Held c next →
-    cellsFrom (n - i) s at i l ≡ cellsFrom (n - (i + 1)) s next (i + 1) (set l i c)
+    (n : ℕ) (s : List ℕ) (at i : ℕ) (l : List Cell) {c : Cell} {next : ℕ} → i < n → cellIn codes s at ≡ Held c next →
+    cellsFrom codes (n - i) s at i l ≡ cellsFrom codes (n - (i + 1)) s next (i + 1) (set l i c)
 unfolding cellsFrom
-from-next n s at i l h e = ap (λ (k : ℕ). cellsFrom k s at i l) (less n i h) ∙ rw (e, add-one i)
+from-next n s at i l h e = ap (λ (k : ℕ). cellsFrom codes k s at i l) (less n i h) ∙ rw (e, add-one i)
 
-pub from-end : (n : ℕ) (s : List ℕ) (at i : ℕ) (l : List Cell) → n ≤ i → cellsFrom (n - i) s at i l ≡ Cells l at
+pub from-end : (n : ℕ) (s : List ℕ) (at i : ℕ) (l : List Cell) → n ≤ i → cellsFrom codes (n - i) s at i l ≡ Cells l at
 unfolding cellsFrom
 from-end n s at i l h = let e : n - i ≡ 0 = omega arith in rw e

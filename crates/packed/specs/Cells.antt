@@ -8,7 +8,7 @@ use Rattle.fields.specs.declared.rows.Parsed.{Parsed}
 use Rattle.varint.specs.Groups.{groups, numberAt}
 use Rattle.varint.specs.declared.groups.Reading.{Reading}
 use Rattle.varint.specs.declared.groups.Reading.the-variants.{Found, Refused}
-use Rattle.format.specs.Formats.{fieldsOf, known}
+use Rattle.format.specs.Formats.{fieldsOf, Codes}
 use Rattle.instruction.specs.Codes.{codeOf}
 use Rattle.instruction.specs.Numbers.{numbersOf, cellOf, sameNumbers}
 use Rattle.instruction.specs.declared.Cell.{Cell}
@@ -35,13 +35,14 @@ unfoldable pub cellBy : ℕ → Parsed → ReadCell
 cellBy code p =
     choose (both (p .ok) (sameNumbers (numbersOf (cellOf code (p .values))) (p .values))) (Held (cellOf code (p .values)) (p .at)) Wrong
 
-unfoldable pub cellAfter : List ℕ → Reading → ReadCell
-cellAfter s (Found code next) = choose (known code) (cellBy code (readRow (fieldsOf code) s next)) Wrong
-cellAfter s Refused = Wrong
+-- a code that there is, and the numbers of its fields, by the codes that the reader knows
+unfoldable pub cellAfter : Codes → List ℕ → Reading → ReadCell
+cellAfter t s (Found code next) = choose (t .known code) (cellBy code (readRow (t .fields code) s next)) Wrong
+cellAfter t s Refused = Wrong
 
 -- the cell at a place of a string; whether it is sound is not asked
-unfoldable pub cellIn : List ℕ → ℕ → ReadCell
-cellIn s at = cellAfter s (numberAt s at)
+unfoldable pub cellIn : Codes → List ℕ → ℕ → ReadCell
+cellIn t s at = cellAfter t s (numberAt s at)
 
 -- what reading a cell's numbers hands back, with the six places afterwards
 unfoldable pub codedAs : Coded → List ℕ → ReadCell
@@ -64,9 +65,9 @@ onCell (Held c next) f = f c next
 onCell Wrong f = NoCells
 
 -- n cells from a place on, stored from place i on
-unfoldable pub cellsFrom : ℕ → List ℕ → ℕ → ℕ → List Cell → ReadCells
-cellsFrom zero s at i cells = Cells cells at
-cellsFrom (suc n) s at i cells = onCell (cellIn s at) (λ c next. cellsFrom n s next (suc i) (set cells i c))
+unfoldable pub cellsFrom : Codes → ℕ → List ℕ → ℕ → ℕ → List Cell → ReadCells
+cellsFrom t zero s at i cells = Cells cells at
+cellsFrom t (suc n) s at i cells = onCell (cellIn t s at) (λ c next. cellsFrom t n s next (suc i) (set cells i c))
 
 -- what reading into a memory hands back, with the memory afterwards
 unfoldable pub cellsAs : Next → List Cell → ReadCells

@@ -3,6 +3,7 @@ ghost use mathlib.Core.Path.{_≡_};
 ghost use Prim.Native.Nat.{_+_, _≤_};
 ghost use lib.ListN.{length, take};
 ghost use Rattle.laws.specs.Writing.{Put};
+ghost use Rattle.format.specs.Formats.{codes};
 ghost use Rattle.packed.specs.Cells.{cellBytes, cellIn, codedAs};
 ghost use Rattle.packed.specs.Cells.{cellsBytes, cellsFrom, cellsAs, WritableCells};
 use crate::rows;
@@ -53,7 +54,7 @@ enum Coded {
 
 // The code at a place, and its numbers into six places.
 fn read_numbers(s: &[u8], at: usize, values: &mut [u32; 6]) -> Coded
-    ensures { λ r. ⌜ codedAs r (now (values .exit)) ≡ cellIn (now (s .entry)) at ⌝ }
+    ensures { λ r. ⌜ codedAs r (now (values .exit)) ≡ cellIn codes (now (s .entry)) at ⌝ }
 {
     let Reading::Found { value, next } = groups::read_number(s, at) else {
         return Coded::Wrong;
@@ -83,7 +84,7 @@ pub struct Filled {
 // Reads n cells from a place on into the first places of a memory.
 pub fn read_cells(s: &[u8], from: usize, cells: [Cell; 131], n: usize) -> Filled
     requires { ⌜ n ≤ 131 ⌝ }
-    ensures { λ r. ⌜ cellsAs (r .next) (r .cells) ≡ cellsFrom n (now (s .entry)) from 0 cells ⌝ }
+    ensures { λ r. ⌜ cellsAs (r .next) (r .cells) ≡ cellsFrom codes n (now (s .entry)) from 0 cells ⌝ }
 {
     let mut memory = cells;
     let mut values = [0u32; 6];

@@ -69,7 +69,9 @@ cellCases =
     -- docs/SCRIPTS.md: "a frequency outside the table for a 21 or 22"
     ∷ (21 ∷ 2181 ∷ 7 ∷ 1 ∷ 0 ∷ 0 ∷ 0 ∷ [], true) ∷ (21 ∷ 2200 ∷ 7 ∷ 1 ∷ 0 ∷ 0 ∷ 0 ∷ [], false)
     ∷ (61 ∷ 65535 ∷ 0 ∷ 0 ∷ 0 ∷ 0 ∷ 0 ∷ [], true) ∷ (61 ∷ 65536 ∷ 0 ∷ 0 ∷ 0 ∷ 0 ∷ 0 ∷ [], false)
-    ∷ (65 ∷ 65536 ∷ 0 ∷ 0 ∷ 0 ∷ 0 ∷ 0 ∷ [], true) ∷ (65 ∷ minus 1 ∷ 0 ∷ 0 ∷ 0 ∷ 0 ∷ 0 ∷ [], false)
+    -- a delay beyond the longest can be held, though no sound drive holds it
+    ∷ (65 ∷ 8388607 ∷ 0 ∷ 0 ∷ 0 ∷ 0 ∷ 0 ∷ [], true) ∷ (65 ∷ 8388608 ∷ 0 ∷ 0 ∷ 0 ∷ 0 ∷ 0 ∷ [], true)
+    ∷ (65 ∷ minus 1 ∷ 0 ∷ 0 ∷ 0 ∷ 0 ∷ 0 ∷ [], false)
     -- docs/SCRIPTS.md: "A code that is none of the 20 is unrepresentable"
     ∷ (99 ∷ 0 ∷ 0 ∷ 0 ∷ 0 ∷ 0 ∷ 0 ∷ [], false) ∷ []
 

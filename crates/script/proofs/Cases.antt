@@ -68,7 +68,7 @@ rawWrites =
     gives "K ad 48" (Writes (Field 0 48)) ∷ gives "K pos -1" (Writes (Field 5 (2 ^ 64 - 1))) ∷
     gives "K campos +5" (Writes (Field 8 5)) ∷ gives "K recrest 7" (Writes (Field 12 7)) ∷
     gives "K rest -0" (Writes (Field 16 0)) ∷ gives "K mark 1" (Writes (Field 18 1)) ∷
-    gives "K out CU 1" (Writes (Output 13 1)) ∷ gives "K c100 65 65536 0" (Writes (Cell 0)) ∷
+    gives "K out CU 1" (Writes (Output 13 1)) ∷ gives "K c100 65 8388608 0" (Writes (Cell 0)) ∷
     gives "K c230 69 0" (Writes (Cell 130)) ∷ gives "K c101 99 1 2 3 4 5 6 7" (Writes (Cell 1)) ∷
     gives "K c102 4294967295 1" (Writes (Cell 2)) ∷
     []
@@ -147,8 +147,10 @@ longest = refl
 -- the numbers of a cell, seven at most, up to a word that is none; nothing of any other line
 numbers :
     map (λ (s : String). numbersAfter (bytes s) (replicate 7 9))
-    ("K c100 65 -1 0" ∷ "K c100 99 1 2 3 4 5 6 7 8" ∷ "K c100 65 x 1" ∷ "K c100 65" ∷ "K ad 1" ∷ "# K c100 65 1 0" ∷ [])
-    ≡ (65 ∷ (2 ^ 64 - 1) ∷ 0 ∷ 9 ∷ 9 ∷ 9 ∷ 9 ∷ []) ∷ (99 ∷ 1 ∷ 2 ∷ 3 ∷ 4 ∷ 5 ∷ 6 ∷ []) ∷ (65 ∷ 9 ∷ 9 ∷ 9 ∷ 9 ∷ 9 ∷ 9 ∷ []) ∷
+    ("K c100 65 -1 0" ∷ "K c100 65 8388608 0" ∷ "K c100 99 1 2 3 4 5 6 7 8" ∷ "K c100 65 x 1" ∷ "K c100 65" ∷ "K ad 1" ∷
+    "# K c100 65 1 0" ∷ [])
+    ≡ (65 ∷ (2 ^ 64 - 1) ∷ 0 ∷ 9 ∷ 9 ∷ 9 ∷ 9 ∷ []) ∷ (65 ∷ 8388608 ∷ 0 ∷ 9 ∷ 9 ∷ 9 ∷ 9 ∷ []) ∷
+    (99 ∷ 1 ∷ 2 ∷ 3 ∷ 4 ∷ 5 ∷ 6 ∷ []) ∷ (65 ∷ 9 ∷ 9 ∷ 9 ∷ 9 ∷ 9 ∷ 9 ∷ []) ∷
     replicate 7 9 ∷ replicate 7 9 ∷ replicate 7 9 ∷ []
 unfolding computing
 numbers = refl

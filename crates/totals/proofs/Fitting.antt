@@ -43,7 +43,7 @@ use Rattle.totals.specs.Table.{stepsIn, delayIn, rowAt, rowsIn, sumsAt, 
 
 -- ---- a sound cell's row
 
--- 01: "65 nnn (0 to 65,535)"
+-- 02: "Code 65 takes 0 to 8,388,607 milliseconds"
 delay-small : (i : Instruction) (next : CellAddress) → cellSound (record { instruction = i; next = next }) ≡ true → delayOf i .0 ≤ delayLimit
 unfolding delayOf choose codeOf numbersWith
 delay-small (TimeDelay n) next t = delay-cell next n t

@@ -112,7 +112,8 @@ ofTotals =
     Gives "a run of 0 steps and a delay of 0" (told (send "00WN,230,11,05,+0,x4,100" ∷ send "00WN,100,65,0,000" ∷ [])) 230 (pos 0) 0 ∷
     Gives "131 cells of the longest run" (chained (Indexed 5 true (record { 0 = pos 8388607 }))) 100 (pos 4395630068) 0 ∷
     Gives "the same back" (chained (Indexed 5 true (record { 0 = negsuc 8388606 }))) 100 (negsuc 4395630067) 0 ∷
-    Gives "131 of the longest delay" (chained (TimeDelay (record { 0 = 65535 }))) 100 (pos 0) 8585085 ∷
+    Gives "131 of the longest delay" (chained (TimeDelay (record { 0 = 8388607 }))) 100 (pos 0) 1098907517 ∷
+    Gives "131 delays of 65,535" (chained (TimeDelay (record { 0 = 65535 }))) 100 (pos 0) 8585085 ∷
     Gives "a busy drive" (after (send "00PS,104" ∷ Millisecond ∷ []) (told program)) 100 (negsuc 16) 400 ∷
     []
 

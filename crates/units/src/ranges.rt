@@ -14,8 +14,8 @@ impl Steps {
 }
 
 impl Milliseconds {
-    // 01: "65 nnn (0 to 65,535)".
-    pub const DELAY_LIMIT: u32 = 65_535;
+    // 02: "Code 65 takes 0 to 8,388,607 milliseconds".
+    pub const DELAY_LIMIT: u32 = 8_388_607;
 
     // The same rest, of a delay.
     pub const REMAINING_LIMIT: u32 = Steps::REMAINING_LIMIT as u32;

@@ -1,7 +1,7 @@
 //! Programs: cells that link to each other, the strings that write them, and the ways to start
 //! them.
 
-use super::fields::{CONDITIONS, MOST_STEPS, OUTPUTS};
+use super::fields::{CONDITIONS, LONGEST_DELAY, MOST_STEPS, OUTPUTS};
 use super::Generator;
 
 /// The codes of a random program. Runs come often, since most of the rules are about them.
@@ -200,7 +200,8 @@ impl Generator {
     }
 
     fn delay(&mut self) -> String {
-        let high = self.random.pick(&[1, 3, 3, 5, 5, 8, 8, 60, 400, 65_535]);
+        let long = self.random.pick(&[65_535, LONGEST_DELAY]);
+        let high = self.random.pick(&[1, 3, 3, 5, 5, 8, 8, 60, 400, long]);
         let delay = self.value(0, high);
         self.digits(delay)
     }

@@ -44,7 +44,11 @@ impl Generator {
         };
         let long = budget > SOON && budget <= 1_000_000;
         let budget =
-            if long && !self.ends_soon() && !self.random.once_in(12) { 50 } else { budget };
+            if long && !self.ends_soon() && !self.random.once_in(20) { 50 } else { budget };
+        self.wait_with(budget);
+    }
+
+    pub fn wait_with(&mut self, budget: u32) {
         if self.write(&format!("W {budget}")) {
             let _ = self.drive.wait(budget);
         }

@@ -6,6 +6,9 @@ use super::Generator;
 /// The greatest number of steps in an instruction, either way.
 pub const MOST_STEPS: i64 = 8_388_607;
 
+/// The greatest number of milliseconds in an instruction.
+pub const LONGEST_DELAY: i64 = 8_388_607;
+
 const END_OF_POSITIONS: i64 = 2_147_483_647;
 
 pub const OUTPUTS: [&str; 13] =

@@ -123,10 +123,12 @@ impl Generator {
             },
             Field::Next if self.random.once_in(3) => 0,
             Field::Next => self.inside(Field::Within(100, 230)),
-            Field::Within(low, high) => match self.random.below(5) {
+            Field::Within(low, high) => match self.random.below(6) {
                 0 => low,
                 1 => high,
                 2 => low + self.random.below(1_000) as u64 % (high - low + 1),
+                // The ends of 16 bits, where the field has more.
+                3 if high > 65_536 => self.random.pick(&[65_535, 65_536]),
                 _ => self.random.between(low as i64, high as i64) as u64,
             },
         }

@@ -52,7 +52,7 @@ pub static CODES: [(u64, &[Field]); 20] = [
     (61, &[Within(1, 65_535), Next]),
     (62, &[CELL, Next]),
     (63, &[Within(0, 15), BIT, CELL, Next]),
-    (65, &[Within(0, 65_535), Next]),
+    (65, &[Within(0, 8_388_607), Next]),
     (69, &[]),
     (70, &[BIT, Next]),
 ];

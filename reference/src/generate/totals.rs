@@ -9,12 +9,13 @@ use crate::memory::{Drive, Resolution};
 /// Starts outside 100 to 230. Some of them are cells in fewer bits.
 const OUTSIDE: [u32; 12] = [0, 1, 99, 99, 231, 231, 255, 256, 300, 356, 65_636, 4_294_967_295];
 
-const CONTENTS: [(usize, Content); 5] = [
+const CONTENTS: [(usize, Content); 6] = [
     (6, Content::Mixed { steps: 6, milliseconds: 8 }),
-    (4, Content::Mixed { steps: 8_388_607, milliseconds: 65_535 }),
+    (4, Content::Mixed { steps: 8_388_607, milliseconds: 8_388_607 }),
     (1, Content::Mixed { steps: 0, milliseconds: 0 }),
     (1, Content::Farthest { forward: true }),
     (1, Content::Farthest { forward: false }),
+    (1, Content::Longest),
 ];
 
 const ENDINGS: [(usize, Ending); 4] =

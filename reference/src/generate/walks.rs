@@ -3,7 +3,7 @@
 
 use super::random::Random;
 use crate::frequency::TABLE;
-use crate::instruction::{Cell, Instruction, Instruction::*, MOST_STEPS};
+use crate::instruction::{Cell, Instruction, Instruction::*, LONGEST_DELAY, MOST_STEPS};
 
 /// Cells with their addresses, in the order in which they are met.
 pub type Walk = Vec<(u8, Cell)>;
@@ -15,6 +15,8 @@ pub enum Content {
     Mixed { steps: i32, milliseconds: u32 },
     /// Runs of the most steps there are, all in one direction.
     Farthest { forward: bool },
+    /// The longest delays there are.
+    Longest,
 }
 
 /// Where the last cell of a walk leads.
@@ -71,6 +73,7 @@ fn allowed(random: &mut Random, content: Content) -> Instruction {
         Content::Mixed { steps, milliseconds } => mixed(random, steps, milliseconds),
         Content::Farthest { forward: true } => run(random, MOST_STEPS, true),
         Content::Farthest { forward: false } => run(random, -MOST_STEPS, true),
+        Content::Longest => TimeDelay { milliseconds: LONGEST_DELAY },
     }
 }
 

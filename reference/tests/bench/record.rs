@@ -13,7 +13,7 @@ fn only_changed_content_empties_the_record() {
     list(&format!("{interrupted}; s 00WN,100,65,8,000; s 00QR = 00QR,000"));
     list(&format!("{interrupted}; s 00WN,100,69; s 00QR = 00QR,000"));
     list(&format!("{interrupted}; s 00WN,101,65,8,000; s 00QR = 00QR,100,+9,0"));
-    list(&format!("{interrupted}; s 00WN,100,65,65536,000 = 00N; s 00QR = 00QR,100,+9,0"));
+    list(&format!("{interrupted}; s 00WN,100,65,8388608,000 = 00N; s 00QR = 00QR,100,+9,0"));
     let run = "s 00WN,100,21,2200,+7,x4,000; s 00PS,100; M; P; s 00EE; s 00QR = 00QR,100,+27,0";
     list(&format!("{run}; s 00WN,100,21,2199,+007,X4,000; s 00QR = 00QR,100,+27,0"));
     list(&format!("{run}; s 00WN,100,21,2200,+7,x1,000; s 00QR = 00QR,000"));

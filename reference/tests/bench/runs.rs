@@ -8,7 +8,7 @@ use reference::memory::Drive;
 // on, and DDD is taken by the NEXT millisecond"
 #[test]
 fn a_delay_of_n_takes_n_milliseconds_after_its_own() {
-    for delay in [1, 2, 5, 65_535] {
+    for delay in [1, 2, 5, 65_535, 65_536] {
         list(&format!("s 00WN,100,65,{delay},000; s 00PS,100; W 100000 = idle {}", delay + 1));
     }
     let then_output = "s 00WN,100,65,2,101; s 00WN,101,58,FC,1,000; s 00PS,100";

@@ -71,7 +71,8 @@ fn a_cell_with_a_field_out_of_range_is_unsound() {
         Instruction::ConditionalJump { input: 0, on: true, jump: 99 },
         Instruction::ConditionalJump { input: 16, on: true, jump: 100 },
         Instruction::OutputSetting { output: 13, on: true },
-        Instruction::TimeDelay { milliseconds: 65_536 },
+        Instruction::TimeDelay { milliseconds: 8_388_608 },
+        Instruction::TimeDelay { milliseconds: u32::MAX },
     ];
     for instruction in unsound {
         assert!(!holding(instruction).sound(), "{instruction:?}");
@@ -103,13 +104,16 @@ fn presets_cam_and_error_are_bounded() {
     }
 }
 
-// G2: "taken literally also for a 65's rest (record or delay): 65,536 in a 65's record is sound"
+// G2: "taken literally also for a 65's rest (record or delay): 65,536 in a 65's record is sound".
+// 6.2: so no bound of a rest moves with what a 65 takes.
 #[test]
 fn a_rest_is_bounded_alike_for_steps_and_milliseconds() {
     let sound = [
         (INDEXED, Remaining::Steps(MOST)),
         (INDEXED, Remaining::Steps(-MOST)),
         (DELAY, Remaining::Milliseconds(65_536)),
+        (DELAY, Remaining::Milliseconds(8_388_607)),
+        (DELAY, Remaining::Milliseconds(8_388_608)),
         (DELAY, Remaining::Milliseconds(MOST as u32)),
     ];
     let unsound = [

@@ -287,7 +287,7 @@ pub fn commands(scripts: &[Vec<Call>], least: usize) {
 }
 
 /// The first fields of a string to the drive's own address.
-fn fields(moment: &Moment) -> Vec<String> {
+pub fn fields(moment: &Moment) -> Vec<String> {
     let Call::String { bytes, .. } = moment.call else { return vec![] };
     let bytes = bytes.strip_suffix(b"\r").unwrap_or(bytes);
     let text = String::from_utf8_lossy(bytes);
@@ -324,7 +324,7 @@ pub fn instructions_and_presets(scripts: &[Vec<Call>], least: usize) {
 }
 
 /// What happens seldom: its name, and how a moment is known to be one.
-type Happening = (&'static str, fn(&Moment) -> bool);
+pub type Happening = (&'static str, fn(&Moment) -> bool);
 
 const HAPPENINGS: [Happening; 32] = [
     ("error 50", |m| new_error(m) == 50),
@@ -425,7 +425,7 @@ fn waits_at(drive: &Drive, wanted: &str) -> bool {
 }
 
 /// A millisecond that takes a cell of this code.
-fn taken(m: &Moment, wanted: &str) -> bool {
+pub fn taken(m: &Moment, wanted: &str) -> bool {
     *m.call == Call::Millisecond
         && pair(m.before).is_some_and(|pair| pair == format!("waiting {wanted}"))
 }
@@ -459,7 +459,7 @@ fn record(drive: &Drive) -> i64 {
 }
 
 /// A string or a word or a halt that makes a busy drive idle.
-fn stopped(m: &Moment) -> bool {
+pub fn stopped(m: &Moment) -> bool {
     !m.before.idle()
         && m.after.idle()
         && matches!(m.call, Call::String { .. } | Call::Inputs(_) | Call::Halted)
@@ -578,7 +578,7 @@ struct Asked<'a> {
 }
 
 impl Asked<'_> {
-    fn from_a_cell(&self) -> bool {
+    fn starts_at_a_cell(&self) -> bool {
         (100..=230).contains(&self.start)
     }
 
@@ -633,9 +633,9 @@ impl Asked<'_> {
 /// What a call for totals can meet: its name, and how it is known.
 type Met = (&'static str, fn(&Asked) -> bool);
 
-const MET: [Met; 38] = [
-    ("an unsound drive, from a cell", |a| !a.drive.sound() && a.from_a_cell()),
-    ("an unsound drive, from no cell", |a| !a.drive.sound() && !a.from_a_cell()),
+const MET: [Met; 40] = [
+    ("an unsound drive, from a cell", |a| !a.drive.sound() && a.starts_at_a_cell()),
+    ("an unsound drive, from no cell", |a| !a.drive.sound() && !a.starts_at_a_cell()),
     ("from 000", |a| a.start == 0 && a.drive.sound()),
     ("from 99", |a| a.start == 99 && a.drive.sound()),
     ("from 100", |a| a.start == 100 && a.drive.sound()),
@@ -680,6 +680,8 @@ const MET: [Met; 38] = [
     ("runs before and behind a 60", |a| a.runs_around_a_60()),
     ("a delay of 0", |a| a.delays().contains(&0)),
     ("delays of more than 16 bits", |a| a.delays().iter().sum::<u32>() > 65_535),
+    ("delays of more than 24 bits", |a| a.delays().iter().sum::<u32>() > 16_777_215),
+    ("131 of the longest delays", |a| a.delays() == [8_388_607; 131]),
 ];
 
 /// Codes of a walk that ends at 000, and RS where it has an x4; or the code at which it is refused.
@@ -689,7 +691,7 @@ fn codes_and_rs(asked: &Asked) -> Vec<String> {
     match walked.ended {
         Ended::MetTwice(_) => vec![],
         Ended::OtherCode => {
-            fields().last().map(|f| format!("13 at {}", f[0])).into_iter().collect()
+            fields().next_back().map(|f| format!("13 at {}", f[0])).into_iter().collect()
         }
         Ended::At000 => {
             let codes = ALLOWED.iter().filter(|code| fields().any(|f| f[0] == **code));
@@ -705,7 +707,7 @@ pub fn walks(scripts: &[Vec<Call>], least: usize) {
     walk(scripts, |moment| {
         let Call::Totals(start) = *moment.call else { return };
         let mut asked = Asked { drive: moment.before, start, walked: None };
-        if asked.drive.sound() && asked.from_a_cell() {
+        if asked.drive.sound() && asked.starts_at_a_cell() {
             asked.walked = Some(walked(asked.drive, start as u8));
         }
         let met = MET.iter().filter(|(_, known)| known(&asked));

@@ -238,7 +238,7 @@ const DONE: [Done; 28] = [
     ("some of 228 to 230 brought in", |e| e.brought_in()[128..].contains(&true)),
     ("some of 228 to 230 dropped", |e| e.dropped()[128..].contains(&true)),
     ("a cell that is not used gets other ways", |e| {
-        !e.used() && !(e.added().is_empty() && e.taken_off().is_empty())
+        !e.used() && (!e.added().is_empty() || !e.taken_off().is_empty())
     }),
     ("other content with equal ways", |e| e.used() && e.same_ways()),
     ("equal content", |e| e.used() && e.moment.before == e.moment.after),

@@ -8,7 +8,23 @@ pub const PRESETS: [&str; 5] = ["AD", "IN", "RS", "ES", "CM"];
 /// The ends that fields of a whole image stand at, or the first fault of another. A field is named
 /// by its preset, or by its code and its place after it.
 pub fn judged(bytes: &[u8]) -> Result<Vec<String>, String> {
-    let mut image = Image { rest: bytes, ends: vec![] };
+    judged_by(CODES, bytes)
+}
+
+/// The first fault to a gateway of before 02's Slip 6. 01: "65 nnn (0 to 65,535)"
+pub fn fault_before(bytes: &[u8]) -> Option<String> {
+    let before: Codes = CODES.map(|(code, fields)| match code {
+        65 => (code, &[Field::Within(0, 65_535), Field::Next][..]),
+        _ => (code, fields),
+    });
+    judged_by(before, bytes).err()
+}
+
+/// What follows each code.
+type Codes = [(u64, &'static [Field]); 20];
+
+fn judged_by(codes: Codes, bytes: &[u8]) -> Result<Vec<String>, String> {
+    let mut image = Image { codes, rest: bytes, ends: vec![] };
     for (name, field) in PRESETS.iter().zip(layout::PRESETS) {
         image.field(name, field)?;
     }
@@ -22,6 +38,7 @@ pub fn judged(bytes: &[u8]) -> Result<Vec<String>, String> {
 }
 
 struct Image<'a> {
+    codes: Codes,
     rest: &'a [u8],
     ends: Vec<String>,
 }
@@ -29,9 +46,9 @@ struct Image<'a> {
 impl Image<'_> {
     fn cell(&mut self) -> Result<(), String> {
         let code = self.number()?;
-        let (_, fields) = CODES.iter().find(|row| row.0 == code).ok_or("unknown code")?;
+        let (_, fields) = self.codes.into_iter().find(|row| row.0 == code).ok_or("unknown code")?;
         let mut numbers = vec![];
-        for (place, field) in (1..).zip(*fields) {
+        for (place, field) in (1..).zip(fields) {
             numbers.push(self.field(&format!("{code}.{place}"), *field)?);
         }
         if code == CAM && numbers[0] == 0 && numbers[1] != 0 {

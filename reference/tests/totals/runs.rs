@@ -121,7 +121,7 @@ fn a_run_over_many_cells_makes_the_steps_and_delays_of_its_totals() {
 fn a_long_run_makes_the_steps_and_delays_of_its_totals() {
     let mut random = Random::new(3);
     for _ in 0..12 {
-        let content = Content::Mixed { steps: 20_000, milliseconds: 65_535 };
+        let content = Content::Mixed { steps: 20_000, milliseconds: 100_000 };
         let walk = walk(&mut random, 4, content, Ending::End);
         as_the_totals_say(&mut random, &walk);
     }

@@ -6,10 +6,10 @@ use Rattle.bench.proofs.calls.waits.Statement.{statement}
 use Rattle.bench.proofs.calls.waits.Tie as tie
 
 abbrev Inv-loop : tie.InvT-loop
-Inv-loop count d₀ sum₀ k₀ d sum k = Unit {0}
+Inv-loop budget count d₀ sum₀ k₀ d sum k = Unit {0}
 
 abbrev μ-loop : tie.MeasureT-loop
-μ-loop count d₀ sum₀ k₀ d sum k = count - k
+μ-loop budget count d₀ sum₀ k₀ d sum k = count - k
 
 loop-holds : tie.Need-loop-holds Inv-loop μ-loop
 loop-holds c = tt

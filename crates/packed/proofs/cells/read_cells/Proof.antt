@@ -4,13 +4,14 @@ use Prim.Native.Nat.{_-_}
 use native.Mathlib.Omega.{arith}
 use mathlib.Core.Path.{_≡_, _∙_, sym}
 use borrow.Author.Needs.{needs}
+use Rattle.format.specs.Formats.{codes}
 use Rattle.packed.specs.Cells.{cellsFrom, cellsAs}
 use Rattle.packed.proofs.CellTurns.{coded-wrong, coded-held, from-start, from-wrong, from-next, from-end}
 use Rattle.packed.proofs.cells.read_cells.Statement.{statement}
 use Rattle.packed.proofs.cells.read_cells.Tie as tie
 
 abbrev Inv-loop : tie.InvT-loop
-Inv-loop s from n memory₀ values₀ at₀ i₀ memory values at i = cellsFrom n s from 0 memory₀ ≡ cellsFrom (n - i) s at i memory
+Inv-loop s from n memory₀ values₀ at₀ i₀ memory values at i = cellsFrom codes n s from 0 memory₀ ≡ cellsFrom codes (n - i) s at i memory
 
 abbrev μ-loop : tie.MeasureT-loop
 μ-loop s from n memory₀ values₀ at₀ i₀ memory values at i = n - i
