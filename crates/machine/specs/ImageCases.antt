@@ -154,7 +154,7 @@ delayed nnn = before ((65 ∷ nnn) ++ replicate 255 0)
 unfoldable pub ofLongerWaits : List ImageCase
 ofLongerWaits =
     Holds "small numbers keep their groups" (told (send "00WN,100,65,65535,000" ∷ [])) (before (65 ∷ 255 ∷ 255 ∷ 3 ∷ 0 ∷ [])) 264 ∷
-    Holds "a longer wait takes a group more" (told (send "00WN,100,65,8388607,000" ∷ [])) (before (65 ∷ 255 ∷ 255 ∷ 255 ∷ 3 ∷ 0 ∷ [])) 265 ∷
+    Holds "Code 65 takes 0 to 8,388,607 milliseconds" (told (send "00WN,100,65,8388607,000" ∷ [])) (before (65 ∷ 255 ∷ 255 ∷ 255 ∷ 3 ∷ 0 ∷ [])) 265 ∷
     Gives "Older images are read as before" (delayed (255 ∷ 255 ∷ 3 ∷ [])) "00QM,100" "00QM,100,65,65535,000" ∷
     GivesBefore "Older images are read as before (by an older gateway)" (delayed (255 ∷ 255 ∷ 3 ∷ [])) "00QM,100" "00QM,100,65,65535,000" ∷
     Gives "an image with a longer wait (65,536)" (delayed (128 ∷ 128 ∷ 4 ∷ [])) "00QM,100" "00QM,100,65,65536,000" ∷
