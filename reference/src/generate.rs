@@ -36,6 +36,8 @@ pub fn script(seed: u64, calls: usize) -> String {
 
 struct Generator {
     random: Random,
+    /// Says when the drive is looked at, beside the other calls.
+    looks: Random,
     drive: Drive,
     lines: String,
     /// The calls that are still to be written.
@@ -158,6 +160,7 @@ impl Generator {
         let address = if random.once_in(2) { 0 } else { random.below(48) };
         let mut generator = Generator {
             random,
+            looks: Random::new(!seed),
             drive: Drive::fresh(0).expect("01 takes address 0"),
             lines: String::new(),
             left: calls,
@@ -191,7 +194,17 @@ impl Generator {
         self.left -= 1;
         self.lines.push_str(line);
         self.lines.push('\n');
+        self.look_at_the_drive();
         true
+    }
+
+    /// The record or the image, now and then behind another call. The other calls of a seed are what
+    /// they are without these.
+    fn look_at_the_drive(&mut self) {
+        if self.left > 0 && self.looks.once_in(40) {
+            self.left -= 1;
+            self.lines.push_str(self.looks.weighted(&[(3, "V\n"), (1, "X\n")]));
+        }
     }
 
     fn fresh_at(&mut self, address: usize) {

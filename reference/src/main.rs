@@ -5,7 +5,7 @@ use reference::bench;
 use reference::console::console;
 use reference::generate::script;
 use reference::replay::Replay;
-use std::io::{self, BufRead, BufWriter, Write};
+use std::io::{self, BufRead, BufReader, BufWriter, Read, Write};
 use std::process::ExitCode;
 
 fn main() -> ExitCode {
@@ -35,7 +35,7 @@ fn usage() -> ExitCode {
 /// Script from standard input, observations to standard output, a complaint to standard error.
 fn replay() -> ExitCode {
     let mut output = BufWriter::new(io::stdout().lock());
-    let result = replay_lines(io::stdin().lock(), &mut output);
+    let result = replay_lines(BufReader::new(io::stdin().lock()), &mut output);
     let result = output.flush().map_err(|error| error.to_string()).and(result);
     match result {
         Ok(()) => ExitCode::SUCCESS,
@@ -46,14 +46,23 @@ fn replay() -> ExitCode {
     }
 }
 
-fn replay_lines(input: impl BufRead, output: &mut impl Write) -> Result<(), String> {
+/// What was seen is handed over before more is read, so that who gives a call at a time gets its
+/// line.
+fn replay_lines(mut input: BufReader<impl Read>, output: &mut impl Write) -> Result<(), String> {
     let mut replay = Replay::default();
-    for line in input.split(b'\n') {
-        let line = line.map_err(|error| error.to_string())?;
-        let observations = replay.line(&String::from_utf8_lossy(&line))?;
+    let mut line = Vec::new();
+    loop {
+        if input.buffer().is_empty() {
+            output.flush().map_err(|error| error.to_string())?;
+        }
+        line.clear();
+        if input.read_until(b'\n', &mut line).map_err(|error| error.to_string())? == 0 {
+            return Ok(());
+        }
+        let text = line.strip_suffix(b"\n").unwrap_or(&line);
+        let observations = replay.line(&String::from_utf8_lossy(text))?;
         output.write_all(observations.as_bytes()).map_err(|error| error.to_string())?;
     }
-    Ok(())
 }
 
 fn generate(seed: &str, calls: &str) -> ExitCode {

@@ -10,6 +10,12 @@ const UNSIGNED: [&str; 15] = [
 ];
 const SIGNED: [&str; 4] = ["pos", "campos", "recrest", "rest"];
 
+/// A phase is written as its place here, which is also its number as a variant.
+const PHASES: [Phase; 7] = {
+    use Phase::*;
+    [Waiting, Delay, Run, Braking, Slowing, EmergencySlowing, Back]
+};
+
 /// The record with both rests as plain numbers, which get their units when it is put together.
 struct Raw {
     drive: Drive,
@@ -36,6 +42,36 @@ pub fn write(drive: &Drive, words: &[&str]) -> Result<Option<Drive>, String> {
         [] => return Err("K: missing name".to_string()),
     };
     Ok(held.and_then(|()| raw.put_together()))
+}
+
+/// The record as the integers that a K writes, in the order in which docs/SCRIPTS.md names them,
+/// parted by commas; those that may be below zero with their sign.
+pub fn print(drive: &Drive) -> String {
+    let Drive { presets, position, inputs, cam, fault, suspended, running, .. } = drive;
+    let resolution = Resolution::NAMES.iter().position(|name| *name == presets.resolution.name());
+    let word = (0..11).fold(0, |word, bit| word | u32::from(inputs.get(bit)) << bit);
+    [
+        presets.address.to_string(),
+        presets.current.to_string(),
+        resolution.unwrap_or_default().to_string(),
+        u8::from(presets.stop_blocks_start).to_string(),
+        u8::from(presets.absolute).to_string(),
+        format!("{position:+}"),
+        word.to_string(),
+        u8::from(cam.set).to_string(),
+        format!("{:+}", cam.position),
+        fault.code.to_string(),
+        fault.cell.to_string(),
+        suspended.cell.to_string(),
+        format!("{:+}", suspended.remaining.number()),
+        suspended.loop_count.to_string(),
+        running.cell.to_string(),
+        (running.phase as u8).to_string(),
+        format!("{:+}", running.remaining.number()),
+        running.loop_count.to_string(),
+        u8::from(running.at_speed).to_string(),
+    ]
+    .join(",")
 }
 
 fn complaint(name: &str) -> String {
@@ -157,9 +193,7 @@ fn bit(value: i64) -> Option<bool> {
 }
 
 fn phase(value: i64) -> Option<Phase> {
-    use Phase::*;
-    let phases = [Waiting, Delay, Run, Braking, Slowing, EmergencySlowing, Back];
-    phases.get(usize::try_from(value).ok()?).copied()
+    PHASES.get(usize::try_from(value).ok()?).copied()
 }
 
 /// s: 1 or -1.

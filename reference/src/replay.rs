@@ -24,8 +24,8 @@ struct Kept {
 }
 
 /// The letters of the calls that have a fixed number of words.
-const CALLS: [&str; 15] =
-    ["F", "S", "I", "M", "P", "A", "H", "W", "B", "R", "Q", "O", "L", "T", "U"];
+const CALLS: [&str; 17] =
+    ["F", "S", "I", "M", "P", "A", "H", "W", "B", "R", "Q", "O", "L", "T", "U", "V", "X"];
 
 /// What is seen of one call, beside the order and the outputs afterwards.
 #[derive(Default)]
@@ -114,6 +114,8 @@ fn call(kept: &mut Kept, words: &[&str]) -> Result<Seen, String> {
         }
         ["T", start] => Seen::of_answer(drive.totals(unsigned(start)?).map(print_totals)),
         ["U"] => Seen::of_answer(drive.refuse_unsound().map(|()| print_map(&kept.used))),
+        ["V"] => Seen::of_answer(Ok(raw::print(drive))),
+        ["X"] => Seen::of_answer(print_image(drive)),
         [name, ..] if CALLS.contains(name) => return Err(format!("{name}: missing or extra word")),
         _ => return Err(format!("not a call: {:?}", words.join(" "))),
     })
@@ -131,6 +133,13 @@ fn call_image(drive: &Drive, size: u32, fill: u32) -> Seen {
     let result = drive.image(&mut buffer);
     let answer = result.ok().map(|length| length.to_string());
     Seen { refusal: result.err(), answer, buffer: Some(weighted_sum(&buffer)), wait: None }
+}
+
+/// The bytes of the drive's image, in lower-case hex.
+fn print_image(drive: &Drive) -> Result<String, u8> {
+    let mut buffer = [0; 2048];
+    let length = drive.image(&mut buffer)?;
+    Ok(buffer[..length].iter().map(|byte| format!("{byte:02x}")).collect())
 }
 
 fn call_raw(kept: &mut Kept, written: Option<Drive>) -> Seen {

@@ -108,6 +108,11 @@ fn maps_are_asked_for_in_every_state() {
 }
 
 #[test]
+fn records_are_shown_in_every_phase_and_images_in_every_state() {
+    coverage::looks(&corpus(), 1);
+}
+
+#[test]
 fn ways_of_every_kind_are_added_and_taken_off() {
     edits::edits(&corpus(), 1);
 }

@@ -17,6 +17,8 @@ mod images;
 mod indexed;
 #[path = "generated/kept.rs"]
 mod kept;
+#[path = "generated/looked.rs"]
+mod looked;
 #[path = "generated/mapped.rs"]
 mod mapped;
 #[path = "common/reached.rs"]
@@ -133,6 +135,11 @@ fn maps_are_asked_for_in_every_state() {
 }
 
 #[test]
+fn records_are_shown_in_every_phase_and_images_in_every_state() {
+    coverage::looks(generated(), 10);
+}
+
+#[test]
 fn ways_of_every_kind_are_added_and_taken_off() {
     edits::edits(generated(), 50);
 }
@@ -177,7 +184,7 @@ fn a_refusal_changes_neither_drive_nor_buffer() {
         let sound = moment.before.sound();
         let needs_a_sound_drive = !matches!(
             moment.call,
-            Call::Fresh(_) | Call::Rounding(_) | Call::Raw(_) | Call::Load(_)
+            Call::Fresh(_) | Call::Rounding(_) | Call::Raw(_) | Call::Load(_) | Call::Record
         );
         if needs_a_sound_drive {
             assert_eq!(moment.seen.refusal == Some(2), !sound, "{:?}", moment.call);

@@ -201,13 +201,54 @@ fn a_map_is_counted_for_a_drive_that_is_loaded_or_written_raw() {
 }
 
 #[test]
+fn records_and_images_have_their_observations() {
+    let (store, start, stop) = (s("00WN,100,65,300,000"), s("00PS,100"), s("00EE"));
+    let calls = format!("V; X; {store}; {start}; M; M; V; {stop}; V; X; K campos -5; V; X");
+    let image = |front: &str, empty: usize| format!("{front}{}", "0000".repeat(empty));
+    let (stand, answered) = ("stand:1,0,0 00000000000000", "00Y\\x0d 463 - -");
+    let expected = [
+        format!("- 0,1,2,0,0,+0,0,0,+0,0,0,0,+0,0,0,0,+0,0,0 - - - {stand}"),
+        format!("- {} - - - {stand}", image("0001020000", 128)),
+        format!("- {answered} {stand}"),
+        format!("- {answered} {stand}"),
+        format!("- - - - - {stand}"),
+        format!("- - - - - {stand}"),
+        format!("- 0,1,2,0,0,+0,0,0,+0,0,0,0,+0,0,100,1,+299,0,0 - - - {stand}"),
+        format!("- {answered} {stand}"),
+        format!("- 0,1,2,0,0,+0,0,0,+0,0,0,100,+299,0,0,0,+0,0,0 - - - {stand}"),
+        format!("- {} - - - {stand}", image("000102000041ac0200", 127)),
+        "- unsound - - - !2 00000000000000".to_string(),
+        "- 0,1,2,0,0,+0,0,0,-5,0,0,100,+299,0,0,0,+0,0,0 - - - !2 00000000000000".to_string(),
+        "2 - - - - !2 00000000000000".to_string(),
+    ];
+    assert_eq!(seen(&calls), expected);
+}
+
+// Every field at an end that the record holds, sound or not; K's own order.
+#[test]
+fn a_record_shows_what_is_written() {
+    let fields = "ad 255; in 254; rs 7; es 0; cm 1; pos 2147483647; inp 2047; camset 0; campos -2147483648; \
+                  errcode 253; errcell 252; reccell 251; recrest -2147483648; recloop 65535; cell 250; \
+                  phase 1; rest 4294967295; loop 65534; mark 1";
+    let shown = seen(&format!("K {}; V", fields.replace("; ", "; K ")));
+    let expected =
+        "255,254,7,0,1,+2147483647,2047,0,-2147483648,253,252,251,-2147483648,65535,250,1,\
+                    +4294967295,65534,1";
+    assert_eq!(shown[19].split(' ').nth(1), Some(expected));
+    for phase in 0..7 {
+        let shown = seen(&format!("K phase {phase}; V"));
+        assert!(shown[1].contains(&format!(",0,{phase},+0,0,0 ")), "{}", shown[1]);
+    }
+}
+
+#[test]
 fn unsound_drive_refuses_2_and_keeps_its_outputs() {
-    let seen = seen("K out O1 1; K ad 48; M; I 0; P; A; H; W 0; B; Q; T 100; T 0; U; R 5");
+    let seen = seen("K out O1 1; K ad 48; M; I 0; P; A; H; W 0; B; Q; T 100; T 0; U; X; R 5");
     assert_eq!(seen[1], "- unsound - - - !2 01000000000000");
-    for line in &seen[2..13] {
+    for line in &seen[2..14] {
         assert_eq!(line, "2 - - - - !2 01000000000000");
     }
-    assert_eq!(seen[13], "- 5 - - - !2 01000000000000");
+    assert_eq!(seen[14], "- 5 - - - !2 01000000000000");
 }
 
 #[test]
@@ -653,7 +694,7 @@ fn raw_cell_is_read_back_as_qm_shows_it() {
 
 /// Lines that are malformed as the third of a script, each with a part of the complaint.
 const MALFORMED: &str = "\
-X => not a call
+Y => not a call
  => not a call
 m => not a call
  M => not a call
@@ -713,6 +754,8 @@ T +100 => not a number
 T 4294967296 => not a number
 t 100 => not a call
 U 1 => missing or extra word
+V 0 => missing or extra word
+X 64 0 => missing or extra word
 U x => missing or extra word
 U  => missing or extra word
 U 100 0 => missing or extra word

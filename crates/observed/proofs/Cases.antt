@@ -1,4 +1,4 @@
--- Computed examples: net steps on both sides of 32 bits, and the largest that 131 cells add up to.
+-- Computed examples: net steps on both sides of 32 bits, and the largest that 131 cells add up to; bytes in hex.
 -- Assumes nothing.
 use mathlib.Core.Path.{_≡_, refl}
 use mathlib.Core.List.{[], _∷_, map}
@@ -7,6 +7,7 @@ use Rattle.laws.specs.Tests.{choose}
 use Rattle.laws.specs.Text.{bytes}
 use Rattle.decimal.specs.Printing.{digits, widthFrom}
 use Rattle.observed.specs.Nets.{signText, wideText, netText}
+use Rattle.observed.specs.Shown.{digit, pairText, hexText}
 
 net-cases :
     map netText
@@ -23,3 +24,7 @@ wide-cases :
     ≡ map bytes ("-9223372036854775808" ∷ "+9223372036854775807" ∷ "+1000000000000000000" ∷ "+1000000000000000007" ∷ [])
 unfolding bytes netText signText wideText digits widthFrom choose
 wide-cases = refl
+
+bytes-in-hex : hexText (0 ∷ 9 ∷ 10 ∷ 15 ∷ 16 ∷ 144 ∷ 165 ∷ 175 ∷ 255 ∷ []) ≡ bytes "00090a0f1090a5afff"
+unfolding bytes hexText pairText digit choose
+bytes-in-hex = refl

@@ -13,7 +13,7 @@ use lib.Seq.{take-all, take-length, take-suc, getD-drop, drop-cons, drop-length}
 use Rattle.laws.proofs.Tests.{lt-or-le}
 use Rattle.lines.specs.Gathering.{gathered, Gathered, bitText}
 use Rattle.observed.specs.Outputs.{bitsText}
-use Rattle.observed.specs.Shown.{shownByte, shown}
+use Rattle.observed.specs.Shown.{shownByte, shown, pairText, hexText}
 use Rattle.observed.specs.Sums.{withByte, withAll}
 use Rattle.observed.specs.declared.sums.Sum.{Sum}
 
@@ -70,22 +70,36 @@ bits-next o from i h k =
     ∙ ap (λ (b : Bool). bitsText (take (i - from) (drop from o)) ++ bitText b) (getD-drop from o (i - from) false
     ∙ ap (λ (j : ℕ). getD o j false) place)
 
--- some bytes as they are shown, and one more
-shown-append : (xs ys : List ℕ) → shown (xs ++ ys) ≡ shown xs ++ shown ys
-unfolding shown
-shown-append [] ys = refl
-shown-append (x ∷ xs) ys = ap (λ (t : List ℕ). shownByte x ++ t) (shown-append xs ys) ∙ sym (append-assoc (shownByte x) (shown xs) (shown ys))
+-- a text of bytes that is made of the text of each: some bytes, and one more
+record Joined (byte : ℕ → List ℕ) (text : List ℕ → List ℕ) : Type 0 where
+  none : text [] ≡ []
+  more : (b : ℕ) (bs : List ℕ) → text (b ∷ bs) ≡ byte b ++ text bs
 
-shown-one : (b : ℕ) → shown (b ∷ []) ≡ shownByte b
-unfolding shown
-shown-one b = append-nil (shownByte b)
+joined-append : {byte : ℕ → List ℕ} {text : List ℕ → List ℕ} → Joined byte text → (xs ys : List ℕ) → text (xs ++ ys) ≡ text xs ++ text ys
+joined-append {byte} {text} j [] ys = ap (λ (t : List ℕ). t ++ text ys) (sym (j .none))
+joined-append {byte} {text} j (x ∷ xs) ys =
+    j .more x (xs ++ ys)
+    ∙ ap (λ (t : List ℕ). byte x ++ t) (joined-append j xs ys)
+    ∙ sym (append-assoc (byte x) (text xs) (text ys))
+    ∙ ap (λ (t : List ℕ). t ++ text ys) (sym (j .more x xs))
+
+joined-next :
+    {byte : ℕ → List ℕ} {text : List ℕ → List ℕ} → Joined byte text → (s : List ℕ) (i : ℕ) → i < length s →
+    text (take (i + 1) s) ≡ text (take i s) ++ byte (getD s i 0)
+joined-next {byte} {text} j s i h =
+    let b = getD s i 0 in
+    ap (λ (k : ℕ). text (take k s)) (add-one i)
+    ∙ ap text (take-suc s i 0 h)
+    ∙ joined-append j (take i s) (b ∷ [])
+    ∙ ap (λ (t : List ℕ). text (take i s) ++ t) (j .more b [] ∙ ap (λ (t : List ℕ). byte b ++ t) (j .none) ∙ append-nil (byte b))
 
 pub shown-next : (s : List ℕ) (i : ℕ) → i < length s → shown (take (i + 1) s) ≡ shown (take i s) ++ shownByte (getD s i 0)
-shown-next s i h =
-    ap (λ (j : ℕ). shown (take j s)) (add-one i)
-    ∙ ap shown (take-suc s i 0 h)
-    ∙ shown-append (take i s) (getD s i 0 ∷ [])
-    ∙ ap (λ (t : List ℕ). shown (take i s) ++ t) (shown-one (getD s i 0))
+unfolding shown
+shown-next = joined-next {byte = shownByte} {text = shown} (record { none = refl; more = λ b bs. refl })
+
+pub hex-next : (s : List ℕ) (i : ℕ) → i < length s → hexText (take (i + 1) s) ≡ hexText (take i s) ++ pairText (getD s i 0)
+unfolding hexText
+hex-next = joined-next {byte = pairText} {text = hexText} (record { none = refl; more = λ b bs. refl })
 
 -- the sum of the bytes that are left
 pub sum-next : (a : Sum) (s : List ℕ) (i : ℕ) → i < length s → withAll a (drop i s) ≡ withAll (withByte a (getD s i 0)) (drop (i + 1) s)

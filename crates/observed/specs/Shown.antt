@@ -1,4 +1,4 @@
--- Bytes as text: "33 to 126 except the backslash as they are, others as `\xNN`".
+-- Bytes as text: "33 to 126 except the backslash as they are, others as `\xNN`"; or all of them "in lower-case hex".
 -- Assumes nothing.
 use Prim.Native.Nat.{ℕ, _+_, _/_, _%_}
 use mathlib.Core.Bool.{Bool, not}
@@ -19,3 +19,11 @@ shownByte b = choose (isPlain b) (b ∷ []) (92 ∷ 120 ∷ digit (b / 16) ∷ d
 unfoldable pub shown : List ℕ → List ℕ
 shown [] = []
 shown (b ∷ bs) = shownByte b ++ shown bs
+
+-- a byte as two digits, the higher first
+unfoldable pub pairText : ℕ → List ℕ
+pairText b = digit (b / 16) ∷ digit (b % 16) ∷ []
+
+unfoldable pub hexText : List ℕ → List ℕ
+hexText [] = []
+hexText (b ∷ bs) = pairText b ++ hexText bs

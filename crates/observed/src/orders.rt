@@ -31,7 +31,7 @@ fn gather_signals(line: &mut [u8], n: usize, signals: BoardSignals) -> usize
 }
 
 // `9000,`.
-fn gather_field(line: &mut [u8], n: usize, value: u32) -> usize
+pub fn gather_field(line: &mut [u8], n: usize, value: u32) -> usize
     ensures { λ r. ⌜ Gathered (now (line .entry)) n (fieldText value) (now (line .exit)) r ⌝ }
 {
     let a = gather_number(line, n, value);

@@ -22,8 +22,8 @@ use seen::Out;
 use seen::put_drive;
 use units::DriveAddress;
 
-// More bytes than one line of observations has.
-const ROOM: usize = 1024;
+// More bytes than one line of observations has: an image of up to 1,413 bytes in hex.
+const ROOM: usize = 4096;
 
 // More bytes than the longest line has: an image of 2,048 bytes in hex.
 const LONGEST: usize = 8192;
@@ -81,6 +81,16 @@ fn with_room(out: &[u8], at: usize) -> usize {
     0
 }
 
+// What was seen is handed over before more is read, so that one who gives a call at a time gets its
+// line; the place for what is seen next.
+fn handed_over(input: Input, out: &[u8], at: usize) -> usize {
+    if input.at < input.end {
+        return at;
+    }
+    flush(out, at);
+    0
+}
+
 // What is to be done with the line that stands in the input; nothing before it is whole.
 fn taken(
     input: Input,
@@ -117,6 +127,7 @@ fn replay(block: &mut [u8], line: &mut [u8], out: &mut Out) {
     let mut input = new_input();
     let mut turns = u64::MAX;
     while turns > 0 {
+        at = handed_over(input, out, at);
         input = advanced(input, block, line);
         let mut text = [0u8; 2048];
         let mut numbers = [0u64; 7];

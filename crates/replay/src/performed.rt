@@ -122,6 +122,13 @@ fn wait(drive: Drive, budget: u32, out: &mut Out, at: &mut usize) -> Drive {
     waited.drive
 }
 
+// The image of the drive, in a buffer that is longer than any.
+fn put_image(drive: Drive, out: &mut Out, at: usize) -> usize {
+    let mut buffer = [0u8; 2048];
+    let written = image::writing::write(drive, &mut buffer);
+    seen::put_bytes(out, at, written, &buffer)
+}
+
 // What leaves the drive as it is.
 fn put_look(drive: Drive, look: Look, used: &CellMap, out: &mut Out, at: usize) -> usize {
     match look {
@@ -130,6 +137,8 @@ fn put_look(drive: Drive, look: Look, used: &CellMap, out: &mut Out, at: usize) 
         Look::Reading => reading::put_reading(drive, out, at),
         Look::Totals(number) => seen::put_totals(out, at, totals::along(drive, cell(number))),
         Look::Used => used::put_used(drive.machine, used, out, at),
+        Look::Record => seen::put_record(out, at, drive.machine.state),
+        Look::Image => put_image(drive, out, at),
     }
 }
 

@@ -7,12 +7,15 @@ use image::results::Written;
 use lines::gathering::front;
 use lines::gathering::gather;
 use lines::gathering::gather_number;
+use machine::State;
 use observed::nets::gather_net;
 use observed::orders::gather_end;
 use observed::orders::gather_order;
 use observed::outputs::gather_outputs;
+use observed::shown::gather_hex;
 use observed::shown::gather_shown;
 use observed::sums::Sum;
+use records::gather_record;
 use totals::results::Totals;
 
 // Where what is seen is gathered, before it is written.
@@ -130,6 +133,25 @@ pub fn put_totals(out: &mut [u8], at: usize, totals: Totals) -> usize {
             let c = gather(out, b, b",");
             let d = gather_number(out, c, sums.delay.0);
             gather(out, d, b" - - -")
+        }
+    }
+}
+
+// The record as integers, sound or not.
+pub fn put_record(out: &mut [u8], at: usize, state: State) -> usize {
+    let a = gather(out, at, b"- ");
+    let b = gather_record(out, a, state);
+    gather(out, b, b" - - -")
+}
+
+// The bytes of an image, which stand at the front of the buffer.
+pub fn put_bytes(out: &mut [u8], at: usize, written: Written, buffer: &[u8]) -> usize {
+    match written {
+        Written::Refused(refusal) => put_plain(out, at, refusal.number()),
+        Written::Image { length } => {
+            let a = gather(out, at, b"- ");
+            let b = gather_hex(out, a, front(buffer, length));
+            gather(out, b, b" - - -")
         }
     }
 }

@@ -6,6 +6,7 @@ use cellmap::CellMap;
 use drive::results::Refusal;
 use lines::gathering::gather;
 use machine::Machine;
+use observed::shown::digit_of;
 
 const DIGITS: usize = 33;
 
@@ -27,15 +28,6 @@ fn four_bits(used: &CellMap, k: usize) -> u8
     let high = 2 * bit(used, k) + bit(used, k + 1);
     let low = 2 * bit(used, k + 2) + bit(used, k + 3);
     4 * high + low
-}
-
-fn digit_of(value: u8) -> u8
-    requires { ⌜ value < 16 ⌝ }
-{
-    if value < 10 {
-        return b'0' + value;
-    }
-    b'a' - 10 + value
 }
 
 fn put_map(used: &CellMap, out: &mut [u8], at: usize) -> usize {

@@ -19,7 +19,7 @@ use Rattle.script.specs.Writes as writes
 use Rattle.script.specs.Calls as calls
 use Rattle.script.specs.Calls.{callOf, textAfter, numbersAfter}
 use Rattle.script.specs.declared.call.Event.the-variants.{Inputs, Millisecond, Step, AtSpeed, Halted}
-use Rattle.script.specs.declared.call.Look.the-variants.{Order, Rounding, Reading, Totals, Used}
+use Rattle.script.specs.declared.call.Look.the-variants.{Order, Rounding, Reading, Totals, Used, Record, Image}
 use Rattle.script.specs.declared.call.Write.the-variants.{Field, Output, Cell}
 use Rattle.script.specs.declared.call.Complaint.{Complaint}
 use Rattle.script.specs.declared.call.Complaint.the-variants.{NotACall, MissingOrExtraWord, NotANumber}
@@ -59,7 +59,8 @@ letters =
     gives "A" (Happens AtSpeed) ∷ gives "H" (Happens Halted) ∷ gives "W 1000001" (Wait 1000001) ∷ gives "B" (Looks Order) ∷
     gives "R 4800" (Looks (Rounding 4800)) ∷ gives "Q" (Looks Reading) ∷ gives "O 0 255" (Save 0 255) ∷ gives "O 2048 0" (Save 2048 0) ∷
     gives "L 000102" (Load 3) ∷ gives "L -" (Load 0) ∷ gives "T 100" (Looks (Totals 100)) ∷
-    gives "T 4294967295" (Looks (Totals 4294967295)) ∷ gives "U" (Looks Used) ∷ gives "# 01" Comment ∷ gives "#" Comment ∷
+    gives "T 4294967295" (Looks (Totals 4294967295)) ∷ gives "U" (Looks Used) ∷ gives "V" (Looks Record) ∷
+    gives "X" (Looks Image) ∷ gives "# 01" Comment ∷ gives "#" Comment ∷
     []
 
 -- raw writes: fields with and without a sign, an output, cells, one of a code that there is not
@@ -76,11 +77,13 @@ rawWrites =
 -- an empty line, two spaces, a longer or an unknown letter; too few or too many words, before what they say
 abbrev wrongWords : List Case
 wrongWords =
-    wrong "" NotACall ∷ wrong " M" NotACall ∷ wrong "m" NotACall ∷ wrong "u" NotACall ∷ wrong "MM" NotACall ∷ wrong "X 1 2" NotACall ∷
+    wrong "" NotACall ∷ wrong " M" NotACall ∷ wrong "m" NotACall ∷ wrong "u" NotACall ∷ wrong "v" NotACall ∷ wrong "x" NotACall ∷
+    wrong "MM" NotACall ∷ wrong "Y 1 2" NotACall ∷
     wrong "M " MissingOrExtraWord ∷ wrong "F" MissingOrExtraWord ∷ wrong "F a b" MissingOrExtraWord ∷
     wrong "S 30 64" MissingOrExtraWord ∷ wrong "O 64" MissingOrExtraWord ∷ wrong "O 64 0 0" MissingOrExtraWord ∷
     wrong "L" MissingOrExtraWord ∷ wrong "L 00 01" MissingOrExtraWord ∷ wrong "T" MissingOrExtraWord ∷
     wrong "T 100 0" MissingOrExtraWord ∷ wrong "U " MissingOrExtraWord ∷ wrong "U 100" MissingOrExtraWord ∷
+    wrong "V " MissingOrExtraWord ∷ wrong "V 0" MissingOrExtraWord ∷ wrong "X " MissingOrExtraWord ∷ wrong "X 1 2" MissingOrExtraWord ∷
     wrong "K ad" MissingOrExtraWord ∷ wrong "K out CU" MissingOrExtraWord ∷
     wrong "K c100 65 0" MissingOrExtraWord ∷ wrong "K c100 65" MissingOrExtraWord ∷ wrong "K c100 65 a" NotANumber ∷
     []
@@ -129,10 +132,10 @@ calls-come = refl
 texts :
     map (λ (s : String). textAfter (bytes s) (9 ∷ 9 ∷ 9 ∷ []))
     ("S 30af 64 0" ∷ "S 30 x y" ∷ "S 30xx41 64 0" ∷ "S 303 64 0" ∷ "S - 64 0" ∷ "S 30 64" ∷ "M" ∷ "L 30af" ∷ "L 30xx" ∷ "L" ∷ "O 2 0" ∷ "T 30" ∷
-    "U" ∷ [])
+    "U" ∷ "V" ∷ "X" ∷ [])
     ≡ (48 ∷ 175 ∷ 9 ∷ []) ∷ (48 ∷ 9 ∷ 9 ∷ []) ∷ (48 ∷ 9 ∷ 9 ∷ []) ∷ (9 ∷ 9 ∷ 9 ∷ []) ∷ (9 ∷ 9 ∷ 9 ∷ []) ∷ (9 ∷ 9 ∷ 9 ∷ []) ∷
     (9 ∷ 9 ∷ 9 ∷ []) ∷ (48 ∷ 175 ∷ 9 ∷ []) ∷ (48 ∷ 9 ∷ 9 ∷ []) ∷ (9 ∷ 9 ∷ 9 ∷ []) ∷ (9 ∷ 9 ∷ 9 ∷ []) ∷ (9 ∷ 9 ∷ 9 ∷ []) ∷
-    (9 ∷ 9 ∷ 9 ∷ []) ∷ []
+    (9 ∷ 9 ∷ 9 ∷ []) ∷ (9 ∷ 9 ∷ 9 ∷ []) ∷ (9 ∷ 9 ∷ 9 ∷ []) ∷ []
 unfolding computing
 texts = refl
 

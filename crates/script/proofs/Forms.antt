@@ -106,7 +106,7 @@ module _ (words : List (List ℕ)) where
 
 -- the letters of the table, and one that is none of them
 abbrev pub letters : List ℕ
-letters = 70 ∷ 83 ∷ 73 ∷ 77 ∷ 80 ∷ 65 ∷ 72 ∷ 87 ∷ 66 ∷ 82 ∷ 81 ∷ 79 ∷ 76 ∷ 84 ∷ 85 ∷ []
+letters = 70 ∷ 83 ∷ 73 ∷ 77 ∷ 80 ∷ 65 ∷ 72 ∷ 87 ∷ 66 ∷ 82 ∷ 81 ∷ 79 ∷ 76 ∷ 84 ∷ 85 ∷ 86 ∷ 88 ∷ []
 
 pub words-other : (letter : ℕ) → Unequal letter letters → 0 ≡ wordCount (formOf letter)
 unfolding formOf formIn wordCount choose bytes
@@ -128,22 +128,24 @@ words-other letter n =
       m .1 .1 .1 .1 .1 .1 .0,
       m .1 .1 .1 .1 .1 .1 .1 .0,
       m .1 .1 .1 .1 .1 .1 .1 .1 .0,
+      m .1 .1 .1 .1 .1 .1 .1 .1 .1 .0,
+      m .1 .1 .1 .1 .1 .1 .1 .1 .1 .1 .0,
     )
 
 -- a letter that is none of those alone that the code tells apart, and none of those with a number
 pub alone-other :
     (letter : ℕ) → eqb letter 77 ≡ false → eqb letter 80 ≡ false → eqb letter 65 ≡ false → eqb letter 72 ≡ false → eqb letter 66 ≡ false →
-    eqb letter 85 ≡ false → Looks Reading ≡ aloneCall (formOf letter)
+    eqb letter 85 ≡ false → eqb letter 86 ≡ false → eqb letter 88 ≡ false → Looks Reading ≡ aloneCall (formOf letter)
 unfolding formOf formIn aloneCall choose bytes
-alone-other letter m p a h b u =
+alone-other letter m p a h b u v x =
     let P : Form → Type 0 = λ f. Looks Reading ≡ aloneCall f in
-    simp (m, p, a, h, b, u)
+    simp (m, p, a, h, b, u, v, x)
     (choose-by P (eqb letter 70) (λ t. refl)
     (λ t. choose-by P (eqb letter 83) (λ s. refl)
-    (λ s. choose-by P (eqb letter 73) (λ v. refl)
-    (λ v. choose-by P (eqb letter 87) (λ w. refl)
-    (λ w. choose-by P (eqb letter 82) (λ x. refl)
-    (λ x. choose-by P (eqb letter 81) (λ y. refl)
+    (λ s. choose-by P (eqb letter 73) (λ r. refl)
+    (λ r. choose-by P (eqb letter 87) (λ w. refl)
+    (λ w. choose-by P (eqb letter 82) (λ q. refl)
+    (λ q. choose-by P (eqb letter 81) (λ y. refl)
     (λ y. choose-by P (eqb letter 79) (λ z. refl)
     (λ z. choose-by P (eqb letter 76) (λ a. refl)
     (λ a. choose-by P (eqb letter 84) (λ b. refl) (λ b. refl))))))))))
@@ -165,7 +167,9 @@ number-other letter v f i w t =
     (λ b. choose-by P (eqb letter 81) (λ c. refl)
     (λ c. choose-by P (eqb letter 79) (λ d. refl)
     (λ d. choose-by P (eqb letter 76) (λ e. refl)
-    (λ e. choose-by P (eqb letter 85) (λ g. refl) (λ g. refl))))))))))))
+    (λ e. choose-by P (eqb letter 85) (λ g. refl)
+    (λ g. choose-by P (eqb letter 86) (λ h. refl)
+    (λ h. choose-by P (eqb letter 88) (λ j. refl) (λ j. refl))))))))))))))
 
 -- of the letters only L is for an image
 pub image-other : (letter : ℕ) → eqb letter 76 ≡ false → isImage (formOf letter) ≡ false
@@ -186,4 +190,6 @@ image-other letter l =
     (λ c. choose-by P (eqb letter 81) (λ d. refl)
     (λ d. choose-by P (eqb letter 79) (λ e. refl)
     (λ e. choose-by P (eqb letter 84) (λ f. refl)
-    (λ f. choose-by P (eqb letter 85) (λ g. refl) (λ g. refl)))))))))))))))
+    (λ f. choose-by P (eqb letter 85) (λ g. refl)
+    (λ g. choose-by P (eqb letter 86) (λ h. refl)
+    (λ h. choose-by P (eqb letter 88) (λ i. refl) (λ i. refl)))))))))))))))))

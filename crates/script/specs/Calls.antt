@@ -19,7 +19,7 @@ use Rattle.script.specs.declared.hex.Decoded.the-variants as decoded
 use Rattle.script.specs.declared.parse.Buffer.{Buffer}
 use Rattle.script.specs.declared.parse.Buffer.the-variants as buffer
 use Rattle.script.specs.declared.call.Event.the-variants.{Inputs, Millisecond, Step, AtSpeed, Halted}
-use Rattle.script.specs.declared.call.Look.the-variants.{Order, Rounding, Reading, Totals, Used}
+use Rattle.script.specs.declared.call.Look.the-variants.{Order, Rounding, Reading, Totals, Used, Record, Image}
 use Rattle.script.specs.declared.call.Complaint.the-variants.{NotACall, MissingOrExtraWord, NotANumber, NumberTooLarge, NotHex, NotImageHex}
 use Rattle.script.specs.declared.call.Call.{Call}
 use Rattle.script.specs.declared.call.Call.the-variants.{Comment, Malformed, Fresh, Tell, Happens, Wait, Looks, Save, Load}
@@ -61,6 +61,8 @@ lines =
     line "L" WithImage ∷
     line "T" (WithNumber (λ c. Looks (Totals c))) ∷
     line "U" (Alone (Looks Used)) ∷
+    line "V" (Alone (Looks Record)) ∷
+    line "X" (Alone (Looks Image)) ∷
     []
 
 unfoldable pub formIn : List Line → ℕ → Form

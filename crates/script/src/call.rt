@@ -29,6 +29,8 @@ pub enum Look {
     Reading,
     Totals(u32),
     Used,
+    Record,
+    Image,
 }
 
 // A raw write.

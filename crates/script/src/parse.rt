@@ -45,6 +45,8 @@ fn words_of(letter: u8) -> usize
         b'L' => 2,
         b'T' => 2,
         b'U' => 1,
+        b'V' => 1,
+        b'X' => 1,
         _ => 0,
     }
 }
@@ -59,6 +61,8 @@ fn plain(letter: u8) -> Call
         b'H' => Call::Happens(Event::Halted),
         b'B' => Call::Looks(Look::Order),
         b'U' => Call::Looks(Look::Used),
+        b'V' => Call::Looks(Look::Record),
+        b'X' => Call::Looks(Look::Image),
         _ => Call::Looks(Look::Reading),
     }
 }

@@ -58,7 +58,11 @@ fn pairs() -> Vec<String> {
 /// The pair that a busy drive stands in.
 fn pair(drive: &Drive) -> Option<String> {
     let present = drive.cells.get(usize::from(drive.running.cell).checked_sub(100)?)?;
-    let phase = match drive.running.phase {
+    Some(format!("{} {}", phase(drive), code(present.instruction)))
+}
+
+fn phase(drive: &Drive) -> &'static str {
+    match drive.running.phase {
         Phase::Waiting => "waiting",
         Phase::Delay => "delay",
         Phase::Run => "run",
@@ -66,8 +70,7 @@ fn pair(drive: &Drive) -> Option<String> {
         Phase::Slowing => "slowing",
         Phase::EmergencySlowing => "emergency slowing",
         Phase::Back => "back",
-    };
-    Some(format!("{phase} {}", code(present.instruction)))
+    }
 }
 
 fn code(instruction: Instruction) -> &'static str {
@@ -225,6 +228,7 @@ pub fn refusals(scripts: &[Vec<Call>], least: usize) {
         "totals 12",
         "totals 13",
         "map 2",
+        "image bytes 2",
     ];
     all_counted(&counts, &refusals.map(str::to_string), least);
 }
@@ -247,6 +251,8 @@ fn operation(call: &Call) -> &'static str {
         Call::Load(_) => "load",
         Call::Totals(_) => "totals",
         Call::Map => "map",
+        Call::Record => "record",
+        Call::ImageBytes => "image bytes",
     }
 }
 
@@ -504,6 +510,22 @@ pub fn outcome(moment: &Moment) -> String {
     };
     let outcome = moment.seen.refusal.map_or("done".to_string(), |number| number.to_string());
     format!("{} {state} {outcome}", operation(moment.call))
+}
+
+/// Records of drives in every phase, idle and unsound, and the bytes of images in every state.
+pub fn looks(scripts: &[Vec<Call>], least: usize) {
+    let mut counts = Counts::new();
+    walk(scripts, |moment| match moment.call {
+        Call::Record if !moment.before.sound() => count(&mut counts, "record unsound"),
+        Call::Record if moment.before.idle() => count(&mut counts, "record idle"),
+        Call::Record => count(&mut counts, format!("record {}", phase(moment.before))),
+        Call::ImageBytes => count(&mut counts, outcome(&moment)),
+        _ => {}
+    });
+    let records = PHASES.map(|(phase, _)| format!("record {phase}"));
+    let others = ["record idle", "record unsound", "image bytes unsound 2"].map(str::to_string);
+    let images = ["idle", "waiting", "moving"].map(|state| format!("image bytes {state} done"));
+    all_counted(&counts, &[&records[..], &others, &images].concat(), least);
 }
 
 /// Drives that an image is asked of, and that one is loaded over.

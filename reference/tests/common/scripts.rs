@@ -1,6 +1,7 @@
 //! Scripts taken apart: each line as a call, and what was seen of it on a drive.
 
 use reference::frequency::round_frequency;
+use reference::image::LONGEST;
 use reference::memory::Drive;
 use reference::raw;
 use reference::totals::Totals;
@@ -24,6 +25,8 @@ pub enum Call {
     Load(Vec<u8>),
     Totals(u32),
     Map,
+    Record,
+    ImageBytes,
 }
 
 /// What one call showed. `answer` is its length, `buffer` the whole buffer afterwards, of a string
@@ -87,6 +90,8 @@ fn parse(line: &str) -> Call {
         "L" => Call::Load(bytes(words[1])),
         "T" => Call::Totals(number(1)),
         "U" => Call::Map,
+        "V" => Call::Record,
+        "X" => Call::ImageBytes,
         _ => panic!("no call in `{line}`"),
     }
 }
@@ -117,6 +122,8 @@ pub fn carry_out(drive: &mut Drive, call: &Call) -> Seen {
         Call::Totals(start) => summed(drive.totals(*start)),
         // The map stands beside the drive: only the refusal is the drive's.
         Call::Map => plain(drive.order().map(drop)),
+        Call::Record => Seen::default(),
+        Call::ImageBytes => plain(drive.image(&mut [0; LONGEST]).map(drop)),
     }
 }
 

@@ -27,6 +27,9 @@ new-input-requires c κs = tt
 loop-holds : tie.Need-loop-holds Inv-loop μ-loop
 loop-holds c = (refl, refl)
 
+handed-over-requires : tie.Need-handed-over-requires Inv-loop μ-loop
+handed-over-requires c κs = tt
+
 advanced-requires : tie.Need-advanced-requires Inv-loop μ-loop
 advanced-requires c κs = tt
 
@@ -100,6 +103,7 @@ replay-spec =
     count-requires
     new-input-requires
     loop-holds
+    handed-over-requires
     advanced-requires
     taken-requires
     enum-known-verdict

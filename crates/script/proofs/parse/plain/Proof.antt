@@ -36,13 +36,22 @@ unfolding formOf formIn aloneCall choose bytes
 returns-6 c = told (λ (k : ℕ). aloneCall (formOf k)) (c .match .keys6) refl
 
 returns-7 : tie.Need-returns-7
-returns-7 c =
+unfolding formOf formIn aloneCall choose bytes
+returns-7 c = told (λ (k : ℕ). aloneCall (formOf k)) (c .match .keys7) refl
+
+returns-8 : tie.Need-returns-8
+unfolding formOf formIn aloneCall choose bytes
+returns-8 c = told (λ (k : ℕ). aloneCall (formOf k)) (c .match .keys8) refl
+
+returns-9 : tie.Need-returns-9
+returns-9 c =
     let a = c .before .args in
     let l = a .letter in
     let n = c .match .rest in
+    let m = n .0 .0 in
     alone-other l
-    (ne-eqb l 77 (n .0 .0 .0 .0 .0 .1)) (ne-eqb l 80 (n .0 .0 .0 .0 .1)) (ne-eqb l 65 (n .0 .0 .0 .1)) (ne-eqb l 72 (n .0 .0 .1))
-    (ne-eqb l 66 (n .0 .1)) (ne-eqb l 85 (n .1))
+    (ne-eqb l 77 (m .0 .0 .0 .0 .0 .1)) (ne-eqb l 80 (m .0 .0 .0 .0 .1)) (ne-eqb l 65 (m .0 .0 .0 .1)) (ne-eqb l 72 (m .0 .0 .1))
+    (ne-eqb l 66 (m .0 .1)) (ne-eqb l 85 (m .1)) (ne-eqb l 86 (n .0 .1)) (ne-eqb l 88 (n .1))
 
 pub plain-spec : {M : Type 1} → statement M
 plain-spec =
@@ -54,4 +63,6 @@ plain-spec =
     returns-4
     returns-5
     returns-6
-    returns-7)
+    returns-7
+    returns-8
+    returns-9)

@@ -30,4 +30,6 @@ words-of-spec =
     (λ c. told (λ (k : ℕ). wordCount (formOf k)) (c .match .keys13) refl)
     (λ c. told (λ (k : ℕ). wordCount (formOf k)) (c .match .keys14) refl)
     (λ c. told (λ (k : ℕ). wordCount (formOf k)) (c .match .keys15) refl)
+    (λ c. told (λ (k : ℕ). wordCount (formOf k)) (c .match .keys16) refl)
+    (λ c. told (λ (k : ℕ). wordCount (formOf k)) (c .match .keys17) refl)
     (λ c. words-other (c .before .args .letter) (unequal-apart (Unit {0}) (c .before .args .letter) letters (c .match .rest) .1)))
