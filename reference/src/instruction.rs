@@ -1,7 +1,7 @@
-//! 01, "Instructions": the 20 codes as text, when a cell is sound, and what a run needs of it.
+//! 01, "Instructions": the 20 codes, when a cell is sound, and what a run needs of it.
 
-use crate::fields::{bit, digits, multiplier, number, place, sign, signed};
-use crate::frequency::{in_table, round_frequency};
+use crate::fields::Range;
+use crate::frequency::in_table;
 use crate::memory::{Drive, OUTPUT_NAMES};
 
 /// One cell of program memory. `next` 0 is 000; a 69 has next 0.
@@ -72,34 +72,31 @@ pub const MOST_STEPS: i32 = 8_388_607;
 /// 02, Slip 6: "Code 65 takes 0 to 8,388,607 milliseconds"
 pub const LONGEST_DELAY: u32 = 8_388_607;
 
+/// 01: "BBB is 100 to 230, DDD 000 (end) or 100 to 230."
+pub const ADDRESS: Range = Range::new(Drive::FIRST as i64, Drive::LAST as i64);
+pub const NEXT: Range = Range { or_zero: true, ..ADDRESS };
+
+/// 01: "FF in the ramp codes is 03 to 24 thousand Hz, in 11, 12 and LL 02 to 30 hundred Hz; FFF 030
+/// to 240 hundred Hz; RR 10 to 42"; "FFFF 0001 to 4800"
+pub const THOUSANDS: Range = Range::new(3, 24);
+pub const HUNDREDS: Range = Range::new(2, 30);
+pub const FINE: Range = Range::new(30, 240);
+pub const RAMP: Range = Range::new(10, 42);
+pub const FREQUENCY: Range = Range::new(1, 4800);
+
+pub const STEPS: Range = Range::new(-(MOST_STEPS as i64), MOST_STEPS as i64);
+/// 01: "05 `FF,RR,s,nnn,XX` (0 to 8,388,607)"
+pub const STEPS_AFTER: Range = Range::new(0, MOST_STEPS as i64);
+/// 01: "61 nnn (1 to 65,535)"
+pub const LOOP_COUNT: Range = Range::new(1, 65_535);
+pub const DELAY: Range = Range::new(0, LONGEST_DELAY as i64);
+
 impl Cell {
-    /// Reads the fields of a WN after its cell: code, parameters, next. 01: "Code 69 has no DDD,
-    /// and its string ends after the 69."
-    pub fn parse(fields: &[&[u8]]) -> Option<Cell> {
-        let cell = match fields {
-            [b"69"] => Cell { instruction: Recovery, next: 0 },
-            [code, parameters @ .., next] => {
-                Cell { instruction: parse_instruction(code, parameters)?, next: digits(next, 3)? }
-            }
-            _ => return None,
-        };
-        cell.sound().then_some(cell)
-    }
-
-    /// The cell as QM shows it after the cell's address.
-    pub fn print(&self) -> String {
-        let text = print_instruction(self.instruction);
-        match self.instruction {
-            Recovery => text,
-            _ => format!("{text},{:03}", self.next),
-        }
-    }
-
     /// 01: "DDD 000 (end) or 100 to 230"
     pub fn sound(&self) -> bool {
         let next = match self.instruction {
             Recovery => self.next == 0,
-            _ => self.next == 0 || is_address(self.next),
+            _ => NEXT.has(self.next),
         };
         next && self.instruction.sound()
     }
@@ -107,151 +104,40 @@ impl Cell {
 
 /// 01: "BBB is 100 to 230"
 pub fn is_address(address: u8) -> bool {
-    (Drive::FIRST..=Drive::LAST).contains(&address)
-}
-
-/// Widths and kinds of the fields. Their ranges are those of a sound cell.
-#[rustfmt::skip]
-fn parse_instruction(code: &[u8], parameters: &[&[u8]]) -> Option<Instruction> {
-    Some(match (code, parameters) {
-        (b"00", []) => Null,
-        (b"01", [f, r, n, x]) => IndexedRamp {
-            frequency: digits(f, 2)?, ramp: digits(r, 2)?, steps: signed(n)?, x4: multiplier(x)?,
-        },
-        (b"02", [f, r, s, x]) => FreeRamp {
-            frequency: digits(f, 2)?, ramp: digits(r, 2)?, forward: sign(s)?, x4: multiplier(x)?,
-        },
-        (b"03", [f, r, s, l]) => ZeroSearch {
-            frequency: digits(f, 2)?, ramp: digits(r, 2)?, forward: sign(s)?, slow: digits(l, 2)?,
-        },
-        (b"05", [f, r, s, n, x]) => DelayedStop {
-            frequency: digits(f, 2)?, ramp: digits(r, 2)?, forward: sign(s)?, steps: number(n)?,
-            x4: multiplier(x)?,
-        },
-        (b"11", [f, n, x]) => Indexed {
-            frequency: digits(f, 2)?, steps: signed(n)?, x4: multiplier(x)?,
-        },
-        (b"12", [f, s, x]) => Free {
-            frequency: digits(f, 2)?, forward: sign(s)?, x4: multiplier(x)?,
-        },
-        (b"21", [f, n, x]) => IndexedFine {
-            frequency: stored_frequency(f)?, steps: signed(n)?, x4: multiplier(x)?,
-        },
-        (b"22", [f, s, x]) => FreeFine {
-            frequency: stored_frequency(f)?, forward: sign(s)?, x4: multiplier(x)?,
-        },
-        (b"31", [f, r, n, x]) => IndexedRampFine {
-            frequency: digits(f, 3)?, ramp: digits(r, 2)?, steps: signed(n)?, x4: multiplier(x)?,
-        },
-        (b"32", [f, r, s, x]) => FreeRampFine {
-            frequency: digits(f, 3)?, ramp: digits(r, 2)?, forward: sign(s)?, x4: multiplier(x)?,
-        },
-        (b"57", [v, n]) => stored_cam(bit(v)?, signed(n)?),
-        (b"58", [o, v]) => OutputSetting { output: place(o, SETTABLE)? as u8, on: bit(v)? },
-        (b"60", []) => CounterReset,
-        (b"61", [n]) => OpeningLoop { count: number(n)? },
-        (b"62", [e]) => ClosingLoop { jump: digits(e, 3)? },
-        (b"63", [i, v, e]) => ConditionalJump {
-            input: place(i, &CONDITIONS)? as u8, on: bit(v)?, jump: digits(e, 3)?,
-        },
-        (b"65", [n]) => TimeDelay { milliseconds: number(n)? },
-        (b"70", [s]) => CurrentSetting { on: bit(s)? },
-        _ => return None,
-    })
-}
-
-/// 01: "FFFF 0001 to 4800 is stored as the greatest table value not above it."
-fn stored_frequency(field: &[u8]) -> Option<u16> {
-    round_frequency(digits(field, 4)?).ok()
-}
-
-/// 01: "stored +0 for V=0"
-fn stored_cam(set: bool, position: i32) -> Instruction {
-    CamSetting { set, position: if set { position } else { 0 } }
-}
-
-/// 01: "Answers print nnn without leading zeros, zero as `+0` where signed."
-fn print_instruction(instruction: Instruction) -> String {
-    let s = |forward| if forward { "+" } else { "-" };
-    let x = |x4| if x4 { "x4" } else { "x1" };
-    let v = |on| if on { 1 } else { 0 };
-    match instruction {
-        Null => "00".to_string(),
-        IndexedRamp { frequency, ramp, steps, x4 } => {
-            format!("01,{frequency:02},{ramp:02},{steps:+},{}", x(x4))
-        }
-        FreeRamp { frequency, ramp, forward, x4 } => {
-            format!("02,{frequency:02},{ramp:02},{},{}", s(forward), x(x4))
-        }
-        ZeroSearch { frequency, ramp, forward, slow } => {
-            format!("03,{frequency:02},{ramp:02},{},{slow:02}", s(forward))
-        }
-        DelayedStop { frequency, ramp, forward, steps, x4 } => {
-            format!("05,{frequency:02},{ramp:02},{},{steps},{}", s(forward), x(x4))
-        }
-        Indexed { frequency, steps, x4 } => format!("11,{frequency:02},{steps:+},{}", x(x4)),
-        Free { frequency, forward, x4 } => format!("12,{frequency:02},{},{}", s(forward), x(x4)),
-        IndexedFine { frequency, steps, x4 } => format!("21,{frequency:04},{steps:+},{}", x(x4)),
-        FreeFine { frequency, forward, x4 } => {
-            format!("22,{frequency:04},{},{}", s(forward), x(x4))
-        }
-        IndexedRampFine { frequency, ramp, steps, x4 } => {
-            format!("31,{frequency:03},{ramp:02},{steps:+},{}", x(x4))
-        }
-        FreeRampFine { frequency, ramp, forward, x4 } => {
-            format!("32,{frequency:03},{ramp:02},{},{}", s(forward), x(x4))
-        }
-        CamSetting { set, position } => format!("57,{},{position:+}", v(set)),
-        OutputSetting { output, on } => format!("58,{},{}", SETTABLE[output as usize], v(on)),
-        CounterReset => "60".to_string(),
-        OpeningLoop { count } => format!("61,{count}"),
-        ClosingLoop { jump } => format!("62,{jump:03}"),
-        ConditionalJump { input, on, jump } => {
-            format!("63,{},{},{jump:03}", CONDITIONS[input as usize], v(on))
-        }
-        TimeDelay { milliseconds } => format!("65,{milliseconds}"),
-        Recovery => "69".to_string(),
-        CurrentSetting { on } => format!("70,{}", v(on)),
-    }
+    ADDRESS.has(address)
 }
 
 impl Instruction {
-    /// 01: "FF in the ramp codes is 03 to 24 thousand Hz, in 11, 12 and LL 02 to 30 hundred Hz; FFF
-    /// 030 to 240 hundred Hz; RR 10 to 42"
+    /// All fields lie in their ranges.
     fn sound(self) -> bool {
-        let thousands = |frequency| (3..=24).contains(&frequency);
-        let hundreds = |frequency| (2..=30).contains(&frequency);
-        let fine = |frequency| (30..=240).contains(&frequency);
-        let ramps = |ramp| (10..=42).contains(&ramp);
-        let within = |steps| (-MOST_STEPS..=MOST_STEPS).contains(&steps);
         match self {
             Null | CounterReset | Recovery | CurrentSetting { .. } => true,
             IndexedRamp { frequency, ramp, steps, .. } => {
-                thousands(frequency) && ramps(ramp) && within(steps)
+                THOUSANDS.has(frequency) && RAMP.has(ramp) && STEPS.has(steps)
             }
-            FreeRamp { frequency, ramp, .. } => thousands(frequency) && ramps(ramp),
+            FreeRamp { frequency, ramp, .. } => THOUSANDS.has(frequency) && RAMP.has(ramp),
             ZeroSearch { frequency, ramp, slow, .. } => {
-                thousands(frequency) && ramps(ramp) && hundreds(slow)
+                THOUSANDS.has(frequency) && RAMP.has(ramp) && HUNDREDS.has(slow)
             }
             DelayedStop { frequency, ramp, steps, .. } => {
-                thousands(frequency) && ramps(ramp) && (0..=MOST_STEPS).contains(&steps)
+                THOUSANDS.has(frequency) && RAMP.has(ramp) && STEPS_AFTER.has(steps)
             }
-            Indexed { frequency, steps, .. } => hundreds(frequency) && within(steps),
-            Free { frequency, .. } => hundreds(frequency),
-            IndexedFine { frequency, steps, .. } => in_table(frequency) && within(steps),
+            Indexed { frequency, steps, .. } => HUNDREDS.has(frequency) && STEPS.has(steps),
+            Free { frequency, .. } => HUNDREDS.has(frequency),
+            IndexedFine { frequency, steps, .. } => in_table(frequency) && STEPS.has(steps),
             FreeFine { frequency, .. } => in_table(frequency),
             IndexedRampFine { frequency, ramp, steps, .. } => {
-                fine(frequency) && ramps(ramp) && within(steps)
+                FINE.has(frequency) && RAMP.has(ramp) && STEPS.has(steps)
             }
-            FreeRampFine { frequency, ramp, .. } => fine(frequency) && ramps(ramp),
+            FreeRampFine { frequency, ramp, .. } => FINE.has(frequency) && RAMP.has(ramp),
             CamSetting { set, position } => set || position == 0,
             OutputSetting { output, .. } => usize::from(output) < SETTABLE.len(),
-            OpeningLoop { count } => count >= 1,
+            OpeningLoop { count } => LOOP_COUNT.has(count),
             ClosingLoop { jump } => is_address(jump),
             ConditionalJump { input, jump, .. } => {
                 usize::from(input) < CONDITIONS.len() && is_address(jump)
             }
-            TimeDelay { milliseconds } => milliseconds <= LONGEST_DELAY,
+            TimeDelay { milliseconds } => DELAY.has(milliseconds),
         }
     }
 

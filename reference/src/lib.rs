@@ -3,17 +3,21 @@
 //! the code states.
 //!
 //! From the record outward: `memory` (the record and its soundness), `instruction` and `frequency`
-//! (what a cell holds), `fields` (words and numbers as text), `program` (starting, milliseconds,
-//! taking a cell), `stops` (inputs words, the two stops), `board` (reports and orders), `wait`,
-//! `serial` (strings and answers), `reading` (the full reading), `image` (the memory image, written
-//! and read), `totals` (steps and milliseconds before a start). Beside the drive: `usage` (the map
-//! of used cells). Around it: `console`, `replay` with its `raw` writes, `generate` (random scripts)
-//! and `bench`.
+//! (what a cell holds), `fields` (words and numbers as text), `format` (cells as text), `command`
+//! (what a string asks for), `program` (starting, milliseconds, taking a cell), `stops` (inputs
+//! words, the two stops), `board` (reports and orders), `wait`, `serial` (strings and answers),
+//! `reasons` (why a string is not taken, in words), `reading` (the full reading), `image` (the
+//! memory image, written and read), `totals` (steps and milliseconds before a start). Beside the
+//! drive: `usage` (the map of used cells). Around it: `console`, `replay` with its `raw` writes,
+//! `explain` (scripts with reasons), `generate` (random scripts) and `bench`.
 
 pub mod bench;
 pub mod board;
+pub mod command;
 pub mod console;
+pub mod explain;
 pub mod fields;
+pub mod format;
 pub mod frequency;
 pub mod generate;
 pub mod image;
@@ -22,6 +26,7 @@ pub mod memory;
 pub mod program;
 pub mod raw;
 pub mod reading;
+pub mod reasons;
 pub mod replay;
 pub mod serial;
 pub mod stops;

@@ -1,8 +1,9 @@
-//! `reference replay`, `reference generate SEED CALLS`, `reference console`, `reference bench NAME
-//! COUNT`.
+//! `reference replay`, `reference explain`, `reference generate SEED CALLS`, `reference console`,
+//! `reference bench NAME COUNT`.
 
 use reference::bench;
 use reference::console::console;
+use reference::explain::Explain;
 use reference::generate::script;
 use reference::replay::Replay;
 use std::io::{self, BufRead, BufReader, BufWriter, Read, Write};
@@ -14,6 +15,7 @@ fn main() -> ExitCode {
     let words: Vec<&str> = arguments.iter().map(String::as_str).collect();
     match words.as_slice() {
         ["replay"] => replay(),
+        ["explain"] => explain(),
         ["generate", seed, calls] => generate(seed, calls),
         ["console"] => {
             console(io::stdin().lock(), io::stdout().lock());
@@ -26,16 +28,29 @@ fn main() -> ExitCode {
 
 fn usage() -> ExitCode {
     eprintln!(
-        "usage: reference replay | reference generate SEED CALLS | reference console | \
-         reference bench NAME COUNT"
+        "usage: reference replay | reference explain | reference generate SEED CALLS | \
+         reference console | reference bench NAME COUNT"
     );
     ExitCode::from(2)
 }
 
 /// Script from standard input, observations to standard output, a complaint to standard error.
 fn replay() -> ExitCode {
-    let mut output = BufWriter::new(io::stdout().lock());
-    let result = replay_lines(BufReader::new(io::stdin().lock()), &mut output);
+    let mut replay = Replay::default();
+    script_lines(BufWriter::new(io::stdout().lock()), |line| replay.line(line))
+}
+
+/// Script from standard input, reasons to standard output, each line at once; complaints as there.
+fn explain() -> ExitCode {
+    let mut explain = Explain::default();
+    script_lines(io::stdout().lock(), |line| explain.line(line))
+}
+
+fn script_lines(
+    mut output: impl Write,
+    call: impl FnMut(&str) -> Result<String, String>,
+) -> ExitCode {
+    let result = each_line(BufReader::new(io::stdin().lock()), &mut output, call);
     let result = output.flush().map_err(|error| error.to_string()).and(result);
     match result {
         Ok(()) => ExitCode::SUCCESS,
@@ -48,8 +63,11 @@ fn replay() -> ExitCode {
 
 /// What was seen is handed over before more is read, so that who gives a call at a time gets its
 /// line.
-fn replay_lines(mut input: BufReader<impl Read>, output: &mut impl Write) -> Result<(), String> {
-    let mut replay = Replay::default();
+fn each_line(
+    mut input: BufReader<impl Read>,
+    output: &mut impl Write,
+    mut call: impl FnMut(&str) -> Result<String, String>,
+) -> Result<(), String> {
     let mut line = Vec::new();
     loop {
         if input.buffer().is_empty() {
@@ -60,8 +78,8 @@ fn replay_lines(mut input: BufReader<impl Read>, output: &mut impl Write) -> Res
             return Ok(());
         }
         let text = line.strip_suffix(b"\n").unwrap_or(&line);
-        let observations = replay.line(&String::from_utf8_lossy(text))?;
-        output.write_all(observations.as_bytes()).map_err(|error| error.to_string())?;
+        let said = call(&String::from_utf8_lossy(text))?;
+        output.write_all(said.as_bytes()).map_err(|error| error.to_string())?;
     }
 }
 

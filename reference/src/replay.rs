@@ -47,6 +47,11 @@ pub fn replay(script: &str) -> Result<String, String> {
 }
 
 impl Replay {
+    /// The drive in use, once there is one.
+    pub fn drive(&self) -> Option<&Drive> {
+        self.kept.as_ref().map(|kept| &kept.drive)
+    }
+
     /// Carries out one line, given without its line feed. Gives its line of observations, nothing
     /// for a comment, or a complaint with the line's number.
     pub fn line(&mut self, line: &str) -> Result<String, String> {
@@ -246,7 +251,7 @@ fn at_most(word: &str, most: u32) -> Result<u32, String> {
 }
 
 /// Bytes in lower-case hex, `-` for none, at most so many.
-fn bytes(word: &str, most: usize) -> Result<Vec<u8>, String> {
+pub(crate) fn bytes(word: &str, most: usize) -> Result<Vec<u8>, String> {
     if word == "-" {
         return Ok(Vec::new());
     }

@@ -1,18 +1,12 @@
 //! 01, "Strings": which strings are heard, commands, requests and their answers.
 
-use crate::fields::{bit, digits, number, place, signed};
-use crate::instruction::{is_address, Cell, SETTABLE};
-use crate::memory::{Cam, Drive, Resolution, Suspended, INPUT_NAMES, OUTPUT_NAMES};
+use crate::command::{parse, Asked, Command, Preset, Request, SHOWN_OUTPUTS};
+use crate::instruction::Cell;
+use crate::memory::{Drive, Suspended, OUTPUT_NAMES};
+use crate::reasons::{Explanation, Silent, Wrong};
 
 pub const CARRIAGE_RETURN: u8 = 13;
 pub const BROADCAST: u8 = 99;
-
-/// What is said to a string that was heard: Y, N, or a request's value.
-enum Reply {
-    Accepted,
-    Rejected,
-    Value(String),
-}
 
 impl Drive {
     /// 01: "String: 2, drive unsound; 3, answer buffer under 64 bytes. Answers fill the front;
@@ -23,17 +17,17 @@ impl Drive {
         if buffer.len() < 64 {
             return Err(3);
         }
-        let Some((address, text)) = self.hear(bytes) else { return Ok(None) };
-        let reply = self.obey(text);
+        let Ok((address, text)) = self.hear(bytes) else { return Ok(None) };
+        let value = self.judge(text).map(|asked| self.carry_out(asked));
         // 01: "Address 99 is never answered. AA is the address in the string, also after WS,AD."
         if address == BROADCAST {
             return Ok(None);
         }
-        let answer = match reply {
-            Reply::Accepted => format!("{address:02}Y\r"),
-            Reply::Rejected => format!("{address:02}N\r"),
+        let answer = match value {
+            Ok(None) => format!("{address:02}Y\r"),
+            Err(_) => format!("{address:02}N\r"),
             // 01: "Requests repeat themselves with the value after"
-            Reply::Value(value) => {
+            Ok(Some(value)) => {
                 format!("{address:02}{},{value}\r", String::from_utf8_lossy(text))
             }
         };
@@ -41,66 +35,75 @@ impl Drive {
         Ok(Some(answer.len()))
     }
 
-    /// Checks 1 to 4: the address and the text between it and the 13, or `None` for silent.
-    fn hear<'a>(&self, bytes: &'a [u8]) -> Option<(u8, &'a [u8])> {
-        // 01: "(1) empty, or last byte not 13: silent; (2) first two bytes not digits, or neither
-        // own address nor 99: silent"
-        let [tens, ones, text @ .., CARRIAGE_RETURN] = bytes else { return None };
-        let address: u8 = digits(&[*tens, *ones], 2)?;
-        if address != self.presets.address && address != BROADCAST {
-            return None;
+    /// What `string` would make of a string, and why: the same checks, and nothing is carried out.
+    /// Refusal 2 as there.
+    pub fn explain(&self, bytes: &[u8]) -> Result<Explanation, u8> {
+        self.refuse_unsound()?;
+        let (address, text) = match self.hear(bytes) {
+            Ok(heard) => heard,
+            Err(silent) => return Ok(Explanation::Silent(silent.to_string())),
+        };
+        Ok(match (address, self.judge(text)) {
+            (BROADCAST, Ok(_)) => Explanation::carried_out_for_all(),
+            (BROADCAST, Err(wrong)) => Explanation::wrong_for_all(wrong),
+            (_, Ok(_)) => Explanation::Taken,
+            (_, Err(wrong)) => Explanation::Rejected(wrong.to_string()),
+        })
+    }
+
+    /// Checks 1 to 4: the address and the text between it and the 13, or why the drive is silent.
+    fn hear<'a>(&self, bytes: &'a [u8]) -> Result<(u8, &'a [u8]), Silent> {
+        // 01: "(1) empty, or last byte not 13: silent"
+        let own = self.presets.address;
+        let [string @ .., CARRIAGE_RETURN] = bytes else {
+            return Err(if bytes.is_empty() { Silent::Empty } else { Silent::Unended });
+        };
+        // 01: "(2) first two bytes not digits, or neither own address nor 99: silent"
+        let (address, text) = match string {
+            [] => return Err(Silent::Empty),
+            [tens @ b'0'..=b'9', ones @ b'0'..=b'9', text @ ..] => {
+                (10 * (tens - b'0') + (ones - b'0'), text)
+            }
+            _ => return Err(Silent::NoAddress { own }),
+        };
+        if address != own && address != BROADCAST {
+            return Err(Silent::OtherAddress { address, own });
         }
         let code = text.get(..2).unwrap_or_default();
         // 01: "(3) busy, and bytes 3 and 4 not EE or ES: silent"
         if !self.idle() && !matches!(code, b"EE" | b"ES") {
-            return None;
+            return Err(Silent::Busy(self.running));
         }
         // 01: "(4) for 99, code not WS, EE, ES: silent"
         if address == BROADCAST && !matches!(code, b"WS" | b"EE" | b"ES") {
-            return None;
+            return Err(Silent::NotForAll);
         }
-        Some((address, text))
+        Ok((address, text))
     }
 
-    /// Checks 5 to 7. 01: "(5) over 64 bytes with the 13, unknown code, wrong fields or range:
-    /// `AAN`"; "Fields are parted by one comma"
-    fn obey(&mut self, text: &[u8]) -> Reply {
-        if text.len() + 3 > 64 {
-            return Reply::Rejected;
-        }
-        let fields: Vec<&[u8]> = text.split(|&byte| byte == b',').collect();
-        let reply = match self.request(&fields) {
-            Some(value) => Some(Reply::Value(value)),
-            None => self.command(&fields).map(|()| Reply::Accepted),
-        };
-        reply.unwrap_or(Reply::Rejected)
-    }
-
-    /// Carries out a command. `None` where it is none or its fields are wrong; nothing has changed
-    /// then.
-    fn command(&mut self, fields: &[&[u8]]) -> Option<()> {
-        match *fields {
-            [b"WN", address, ref cell @ ..] => {
-                self.store(parse_address(address)?, Cell::parse(cell)?);
-            }
-            [b"WS", name, value] => self.preset(name, value)?,
+    /// Checks 5 and 6.
+    fn judge<'a>(&self, text: &'a [u8]) -> Result<Asked, Wrong<'a>> {
+        match parse(text)? {
             // 01: "(6) PS with input EE on: `AAN`"
-            [b"PS", _] if self.inputs.ee => return None,
-            [b"PS", address] => self.start(parse_address(address)?),
-            [b"EE"] => self.emergency_stop(),
-            [b"ES"] => self.free_run_stop(),
-            // 01: "`AASA,nnn`, sign optional"
-            [b"SA", value] => self.position = signed(value).or_else(|| number(value))?,
-            [b"SO", name, value] => self.outputs.set(place(name, SETTABLE)?, bit(value)?),
-            // 01: "`AASC,0` may end there"
-            [b"SC", b"0"] => self.cam = Cam::UNSET,
-            [b"SC", set, position] => {
-                let (set, position) = (bit(set)?, signed(position)?);
-                self.cam = if set { Cam { set, position } } else { Cam::UNSET };
-            }
-            _ => return None,
+            Asked::Command(Command::Start(_)) if self.inputs.ee => Err(Wrong::EmergencyInput),
+            asked => Ok(asked),
         }
-        Some(())
+    }
+
+    /// Check 7. 01: "carried out". The value of a request; a command has none.
+    fn carry_out(&mut self, asked: Asked) -> Option<String> {
+        match asked {
+            Asked::Request(request) => return Some(self.value(request)),
+            Asked::Command(Command::Store { address, cell }) => self.store(address, cell),
+            Asked::Command(Command::Set(preset)) => self.set(preset),
+            Asked::Command(Command::Start(address)) => self.start(address),
+            Asked::Command(Command::EmergencyStop) => self.emergency_stop(),
+            Asked::Command(Command::FreeRunStop) => self.free_run_stop(),
+            Asked::Command(Command::Position(position)) => self.position = position,
+            Asked::Command(Command::Output { place, on }) => self.outputs.set(place, on),
+            Asked::Command(Command::Cam(cam)) => self.cam = cam,
+        }
+        None
     }
 
     /// 01: "WN of changed content into the interrupted record's cell empties the record; WN of
@@ -112,51 +115,46 @@ impl Drive {
         self.cells[usize::from(address - Drive::FIRST)] = cell;
     }
 
-    /// 01: "`AAWS,VV,value` (AD, IN, ES, CM as nnn)"; "IN 0 to 3 ..; RS one of D0 to D3, B0 to B3
-    /// ..; ES 0 or 1 ..; CM 0 (relative) or 1 (absolute)"
-    fn preset(&mut self, name: &[u8], value: &[u8]) -> Option<()> {
-        let at_most = |most: u8| number(value).filter(|&value| value <= most);
-        match name {
-            b"AD" => self.presets.address = at_most(47)?,
-            b"IN" => self.presets.current = at_most(3)?,
-            b"RS" => self.presets.resolution = Resolution::at(place(value, &Resolution::NAMES)?)?,
-            b"ES" => self.presets.stop_blocks_start = at_most(1)? == 1,
-            b"CM" => self.presets.absolute = at_most(1)? == 1,
-            _ => return None,
+    fn set(&mut self, preset: Preset) {
+        match preset {
+            Preset::Address(address) => self.presets.address = address,
+            Preset::Current(current) => self.presets.current = current,
+            Preset::Resolution(resolution) => self.presets.resolution = resolution,
+            Preset::StopBlocksStart(on) => self.presets.stop_blocks_start = on,
+            Preset::Absolute(on) => self.presets.absolute = on,
         }
-        Some(())
     }
 
-    /// The value that a request is answered with. `None` where it is none or its fields are wrong.
-    fn request(&self, fields: &[&[u8]]) -> Option<String> {
-        Some(match *fields {
-            [b"QA"] => format!("{:+}", self.position),
-            [b"QS", name] => self.preset_value(name)?,
-            [b"QI", name] => print_bit(self.inputs.get(place(name, &INPUT_NAMES)?)),
+    /// The value that a request is answered with.
+    fn value(&self, request: Request) -> String {
+        match request {
+            Request::Position => format!("{:+}", self.position),
+            Request::Preset(place) => self.preset_value(place),
+            Request::Input(place) => print_bit(self.inputs.get(place)),
             // 01: "QO,name (also BS 0 and FA 1)"
-            [b"QO", b"BS"] => print_bit(false),
-            [b"QO", b"FA"] => print_bit(true),
-            [b"QO", name] => print_bit(self.outputs.get(place(name, &OUTPUT_NAMES)?)),
-            [b"QM", address] => self.cell(parse_address(address)?).print(),
+            Request::Output(place) if place >= OUTPUT_NAMES.len() => {
+                print_bit(SHOWN_OUTPUTS[place] == "FA")
+            }
+            Request::Output(place) => print_bit(self.outputs.get(place)),
+            Request::Cell(address) => self.cell(address).print(),
             // 01: "QC `1,±nnn` or `0`"
-            [b"QC"] if self.cam.set => format!("1,{:+}", self.cam.position),
-            [b"QC"] => print_bit(false),
+            Request::Cam if self.cam.set => format!("1,{:+}", self.cam.position),
+            Request::Cam => print_bit(false),
             // 01: "QE code (2 digits), cell (3)"
-            [b"QE"] => format!("{:02},{:03}", self.fault.code, self.fault.cell),
-            [b"QR"] => self.suspended_value(),
-            _ => return None,
-        })
+            Request::Fault => format!("{:02},{:03}", self.fault.code, self.fault.cell),
+            Request::Suspended => self.suspended_value(),
+        }
     }
 
-    fn preset_value(&self, name: &[u8]) -> Option<String> {
-        Some(match name {
-            b"AD" => self.presets.address.to_string(),
-            b"IN" => self.presets.current.to_string(),
-            b"RS" => self.presets.resolution.name().to_string(),
-            b"ES" => print_bit(self.presets.stop_blocks_start),
-            b"CM" => print_bit(self.presets.absolute),
-            _ => return None,
-        })
+    /// The preset at a place of `PRESET_NAMES`.
+    fn preset_value(&self, place: usize) -> String {
+        match place {
+            0 => self.presets.address.to_string(),
+            1 => self.presets.current.to_string(),
+            2 => self.presets.resolution.name().to_string(),
+            3 => print_bit(self.presets.stop_blocks_start),
+            _ => print_bit(self.presets.absolute),
+        }
     }
 
     /// 01: "QR: `000`, or cell, `±nnn` rest, nnn loop count"
@@ -167,11 +165,6 @@ impl Drive {
         }
         format!("{cell:03},{:+},{loop_count}", remaining.number())
     }
-}
-
-/// 01: "BBB is 100 to 230"
-pub(crate) fn parse_address(field: &[u8]) -> Option<u8> {
-    digits(field, 3).filter(|&address| is_address(address))
 }
 
 fn print_bit(on: bool) -> String {

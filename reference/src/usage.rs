@@ -1,9 +1,9 @@
 //! 02, Slip 5: a map of used cells. "Programmers look for free cells while editing." It stands
 //! beside a drive: "The map isn't part of a drive and no answer depends on it."
 
+use crate::command;
 use crate::instruction::{is_address, Cell, Instruction::*};
 use crate::memory::Drive;
-use crate::serial::parse_address;
 
 /// 02: "a map of the cells that can be reached from cells 100 to 115 through DDD and EEE, these 16
 /// included". The first is cell 100.
@@ -79,7 +79,7 @@ fn ways(cell: Cell) -> [u8; 2] {
 /// The cell that a WN would write, if it is taken.
 fn named_cell(bytes: &[u8]) -> Option<u8> {
     match bytes.get(2..8)? {
-        [b'W', b'N', b',', address @ ..] => parse_address(address),
+        [b'W', b'N', b',', address @ ..] => command::address(command::first_cell(address)).ok(),
         _ => None,
     }
 }

@@ -10,6 +10,7 @@ use reference::generate::layout::{self, Field};
 use reference::instruction::Instruction;
 use reference::memory::{Drive, Phase, Remaining, Resolution};
 use reference::raw;
+use reference::reasons::phase_name;
 use reference::wait::End;
 use std::collections::BTreeMap;
 
@@ -58,19 +59,7 @@ fn pairs() -> Vec<String> {
 /// The pair that a busy drive stands in.
 fn pair(drive: &Drive) -> Option<String> {
     let present = drive.cells.get(usize::from(drive.running.cell).checked_sub(100)?)?;
-    Some(format!("{} {}", phase(drive), code(present.instruction)))
-}
-
-fn phase(drive: &Drive) -> &'static str {
-    match drive.running.phase {
-        Phase::Waiting => "waiting",
-        Phase::Delay => "delay",
-        Phase::Run => "run",
-        Phase::Braking => "braking",
-        Phase::Slowing => "slowing",
-        Phase::EmergencySlowing => "emergency slowing",
-        Phase::Back => "back",
-    }
+    Some(format!("{} {}", phase_name(drive.running.phase), code(present.instruction)))
 }
 
 fn code(instruction: Instruction) -> &'static str {
@@ -518,7 +507,9 @@ pub fn looks(scripts: &[Vec<Call>], least: usize) {
     walk(scripts, |moment| match moment.call {
         Call::Record if !moment.before.sound() => count(&mut counts, "record unsound"),
         Call::Record if moment.before.idle() => count(&mut counts, "record idle"),
-        Call::Record => count(&mut counts, format!("record {}", phase(moment.before))),
+        Call::Record => {
+            count(&mut counts, format!("record {}", phase_name(moment.before.running.phase)))
+        }
         Call::ImageBytes => count(&mut counts, outcome(&moment)),
         _ => {}
     });
