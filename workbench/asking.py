@@ -18,8 +18,8 @@ QUIET, PATIENCE = 0.05, 2
 class Talk:
     """Requests to the drive of one address, one at a time. `at` says where the talk is, for messages."""
 
-    def __init__(self, line, address, timeout):
-        self.line, self.own, self.timeout = line, f"{address:02}", timeout
+    def __init__(self, line, address, timeout, silence=None):
+        self.line, self.own, self.timeout, self.reason = line, f"{address:02}", timeout, silence
         self.came = b""
         self.echoed = False
         self.at = ""
@@ -50,7 +50,7 @@ class Talk:
             if len(self.came) > LONGEST and END not in self.came[: LONGEST + 1]:
                 raise Trouble(f"the answer at {self.at} has over {LONGEST} bytes without a byte 13; look at baud rate, parity and wiring")
             if not part and self.came:
-                raise Trouble(f"the answer at {self.at} breaks off without byte 13 at {quoted(self.came)}; look at the line, or give more --timeout")
+                raise Trouble(f"the answer at {self.at} breaks off without byte 13 at {quoted(self.came)}; look at baud rate, parity and wiring, or give more --timeout")
             if not part:
                 return None
         string, _, self.came = self.came.partition(END)
@@ -67,6 +67,8 @@ class Talk:
         return self.judged(asked, answer)
 
     def silence(self):
+        if self.reason:
+            return self.reason
         echo = ", only its echo," if self.echoed else ""
         why = f"the drive is busy, has another address than {self.own}, or is not there"
         return f"no answer{echo} at {self.at} in {self.timeout:g} s: {why}; wait until it is idle, or give --address"
@@ -83,12 +85,20 @@ class Talk:
 
 
 def quoted(data):
-    return f"'{shown(data.decode('latin-1').replace(chr(13), '<13>'))}'"
+    return f"'{shown(data.decode('ascii', 'surrogateescape').replace(chr(13), '<13>'))}'"
 
 
-def taken(line, address, timeout):
-    """The full reading of a drive at rest."""
-    talk = Talk(line, address, timeout)
+def named(line, address, timeout):
+    """Gives a fresh drive of address 00 another address. By demand 3 it is then as one that was made with it."""
+    if address:
+        talk = Talk(line, 0, timeout)
+        talk.at = "the console's address"
+        give(talk, f"00WS,AD,{address}")
+
+
+def taken(line, address, timeout, silence=None):
+    """The full reading of a drive at rest; silence is told in the words that are given, where there are any."""
+    talk = Talk(line, address, timeout, silence)
     try:
         talk.hush()
         values = asked(talk, REQUESTS, "request {} of {}")
@@ -116,10 +126,9 @@ def asked(talk, requests, place):
 # Strings before the reading.
 
 
-def sent(line, path, strings, timeout):
-    """Gives the strings of a program file to a drive of address 00, which must take each. The address that it then has."""
-    talk = Talk(line, 0, timeout)
-    own = 0
+def sent(line, path, strings, own, timeout):
+    """Gives the strings of a program file to a drive, which must take each. The address that it then has."""
+    talk = Talk(line, own, timeout)
     for each in strings:
         text = each.string(own)
         talk.at = f"{path}:{each.number}"
@@ -134,7 +143,7 @@ def give(talk, text):
         return talk.send(text)
     answer = talk.say(text)
     if answer is None or answer[2:] == b"N":
-        got = "no answer" if answer is None else shown(answer.decode("latin-1"))
+        got = "no answer" if answer is None else shown(answer.decode("ascii", "surrogateescape"))
         raise Trouble(f"{talk.at}: {shown(text)} got {got}; bin/program check says why")
 
 

@@ -39,6 +39,8 @@ def check_lines(name, lines):
     with Engine(address) as engine:
         sent = list(files.given(engine, lines))
         print_lines(name, sent, address)
+        if sent and not sent[-1].record.idle:
+            print(f"note: the drive is busy after the last line; every other word of {files.TOOL} wants the PS left out")
         stop(engine)
         print()
         report(engine)

@@ -276,8 +276,8 @@ INSTRUCTIONS = [
 ]
 
 INTRODUCTION = (
-    "One drive of address 00. A string is the address, a code and its fields, parted by commas; Enter ends it with byte 13. "
-    "The drive answers 00Y (done), 00N (refused, nothing has changed), or a request itself with the value after it. "
+    "One drive of address {own}. A string is the address, a code and its fields, parted by commas; Enter ends it with byte 13. "
+    "The drive answers {own}Y (done), {own}N (refused, nothing has changed), or a request itself with the value after it. "
     "While a program runs it hears only EE and ES. Address 99 reaches every drive and is never answered. "
     "After each string the drive runs for up to 1,000 milliseconds."
 )

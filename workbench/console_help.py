@@ -7,19 +7,27 @@ from workbench.console_codes import COMMANDS, INSTRUCTIONS, INTRODUCTION, LETTER
 WIDTH = 79
 
 
-def help_text(words):
-    """All codes, or the ones that are asked for."""
-    return "\n".join(map(help_on, words)) if words else overview()
+def help_text(words, own):
+    """All codes, or the ones that are asked for, to a drive of an address."""
+    return "\n".join(help_on(word, own) for word in words) if words else overview(own)
 
 
-def help_on(word):
-    found = [topic for topic in [*COMMANDS, *REQUESTS, *INSTRUCTIONS] if topic.code == word.upper()]
-    return "\n".join(map(detail, found)) or f"There is no code {word}; ? lists them."
+def help_on(word, own):
+    """A code, or the fields that have a name."""
+    topics = [*COMMANDS, *REQUESTS, *INSTRUCTIONS]
+    found = [detail(topic, own) for topic in topics if topic.code == word.upper()]
+    if not found:
+        found = dict.fromkeys(f"{letters}: {meaning}" for topic in topics for letters, meaning in topic.fields if letters == word)
+    return "\n".join(found) or f"There is no code {word}; ? lists them."
 
 
-def detail(topic):
+def detail(topic, own):
     fields = [indented(f"{letters:6}{meaning}", 8) for letters, meaning in topic.fields]
-    return "\n".join([f"{form_of(topic)}: {topic.name}", indented(topic.does, 2), *fields, f"  For example {topic.example}"])
+    return "\n".join([f"{form_of(topic)}: {topic.name}", indented(topic.does, 2), *fields, f"  For example {example(topic, own)}"])
+
+
+def example(topic, own):
+    return f"{own:02}{topic.example[2:]}"
 
 
 def indented(text, further):
@@ -39,10 +47,11 @@ def short_form(topic):
     return ",".join(filter(None, [topic.code, topic.form])) if topic in INSTRUCTIONS else topic.form
 
 
-def overview():
+def overview(own):
     parts = [("Commands", COMMANDS), ("Requests", REQUESTS), ("Instructions: what stands between WN,BBB and DDD", INSTRUCTIONS)]
-    return "\n".join([fill(INTRODUCTION, WIDTH), *(f"{title}\n{listed(topics)}" for title, topics in parts), fill(LETTERS, WIDTH)])
+    introduction = fill(INTRODUCTION.format(own=f"{own:02}"), WIDTH)
+    return "\n".join([introduction, *(f"{title}\n{listed(topics, own)}" for title, topics in parts), fill(LETTERS, WIDTH)])
 
 
-def listed(topics):
-    return "\n".join(f"  {short_form(topic):18}{topic.name:26}{topic.example}" for topic in topics)
+def listed(topics, own):
+    return "\n".join(f"  {short_form(topic):18}{topic.name:26}{example(topic, own)}" for topic in topics)

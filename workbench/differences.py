@@ -5,7 +5,7 @@ from typing import NamedTuple
 from workbench import files
 from workbench.images import UNKEPT
 from workbench.instructions import EMPTY, name_of
-from workbench.ranges import counted
+from workbench.ranges import counted, listed
 from workbench.trouble import WrongWords, compare, say
 
 EPILOG = "The exit status is 0 where nothing differs, 1 where something does, and 2 for trouble."
@@ -47,6 +47,9 @@ def side(path):
     name, data = files.named(path), files.content(path)
     image = files.is_image(data)
     with (files.loaded_image if image else files.loaded_program)(name, data) as engine:
+        lost = files.passing(engine)
+        if lost:
+            say(files.TOOL, f"{name}: only presets and cells are compared, not {listed(lost)}")
         return Side(name, image, files.memory_of(engine))
 
 

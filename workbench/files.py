@@ -67,13 +67,18 @@ def named(path):
     return "standard input" if path == STANDARD_INPUT else path
 
 
-def content(path):
-    """The bytes of a file, or of standard input."""
+def front(path, size, wanted):
+    """The first bytes of a file, or of standard input; what is wanted is named where it cannot be read."""
     try:
         with open(0 if path == STANDARD_INPUT else path, "rb", closefd=path != STANDARD_INPUT) as file:
-            data = file.read(LIMIT + 1)
+            return file.read(size)
     except OSError as error:
-        raise Trouble(f"{named(path)}: {error.strerror}; name a program file or an image that can be read") from None
+        raise Trouble(f"{named(path)}: {error.strerror}; name {wanted} that can be read") from None
+
+
+def content(path):
+    """The bytes of a program file or an image."""
+    data = front(path, LIMIT + 1, "a program file or an image")
     if len(data) > LIMIT:
         raise Trouble(f"{named(path)}: longer than {LIMIT:,} bytes, which no program file or image needs to be; name another file")
     return data

@@ -1,12 +1,10 @@
 """bin/program image: the memory image of 02, Slip 1, of a program file."""
 
-import os
 import sys
 
-from workbench import files
+from workbench import files, saving
 from workbench.instructions import EMPTY
 from workbench.ranges import listed
-from workbench.saving import STANDARD_OUTPUT, save
 from workbench.trouble import WrongWords, say
 
 # 02: "Cells 228 to 230 aren't kept".
@@ -23,17 +21,16 @@ def run(options):
     judge(options)
     with files.loaded(options.file) as engine:
         lost = unkept(engine)
-        save(options.out, engine.image())
+        saving.save(options.out, engine.image())
     if lost:
         say(files.TOOL, f"{files.named(options.file)}: an image keeps presets and cells 100 to 227, so these are not in it: {listed(lost)}")
 
 
 def judge(options):
-    """Refuses an OUT that would be lost on a terminal, or would take the place of what it is made of."""
-    if options.out == STANDARD_OUTPUT and sys.stdout.isatty():
+    """Refuses an OUT that would be lost."""
+    if options.out == saving.STANDARD_OUTPUT and sys.stdout.isatty():
         raise WrongWords("standard output is a terminal, and an image is bytes that it cannot show; name a file with -o")
-    if all(map(os.path.exists, [options.file, options.out])) and os.path.samefile(options.file, options.out):
-        raise WrongWords(f"{options.out} is the file that the image is made of; name another with -o")
+    saving.judge(options.out, options.file)
 
 
 def unkept(engine):

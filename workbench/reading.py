@@ -4,7 +4,7 @@ import re
 from typing import NamedTuple, Optional
 
 from workbench.engine import CELLS, INPUTS, string_call
-from workbench.files import PRESETS, shown
+from workbench.files import PRESETS, front, shown
 from workbench.trouble import Trouble
 
 # 01's order, which is not that of the outputs in a line of observations.
@@ -138,11 +138,7 @@ def kept(path):
 
 
 def content(path):
-    try:
-        with open(path, "rb") as file:
-            data = file.read(LIMIT + 1)
-    except OSError as error:
-        raise Trouble(f"{path}: {error.strerror}; name a full reading that can be read") from None
+    data = front(path, LIMIT + 1, "a full reading")
     if len(data) > LIMIT or b"\0" in data:
         raise Trouble(f"{path}: no full reading, which is text of some 4 KB; take one with bin/reading take")
     return data.decode("utf-8-sig", "surrogateescape")

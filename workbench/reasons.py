@@ -31,6 +31,11 @@ class Reasons(Process):
         word, why = self.told(string_call(text))
         return Said(None if word == "-" else unescaped(word).rstrip("\r"), why)
 
+    def address(self):
+        """The address that the drive has now."""
+        record, _ = self.told("V")
+        return int(record.partition(",")[0])
+
     def wait(self, budget):
         """How a wait ends, idle, moving or spent, and where the drive then is."""
         return self.told(f"W {budget}")

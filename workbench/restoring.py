@@ -219,5 +219,5 @@ def check(kept, answers):
     pairs = enumerate(zip(kept.reading.answers(), answers))
     for index, (wanted, got) in pairs:
         if wanted != got:
-            instead = "is silent" if got is None else f"answers {got} at best"
-            raise Trouble(f"{kept.place(index)}: no drive with these other answers gives {wanted}: one brought as near as calls bring it {instead}")
+            instead = "is silent" if got is None else f"answers {got}"
+            raise Trouble(f"{kept.place(index)}: no drive gives {wanted} beside the other answers: one that was given the calls for it {instead}")

@@ -6,6 +6,9 @@ from itertools import islice
 
 from workbench.board import AT_SPEED, HALTED, Board
 from workbench.engine import INPUTS, PHASES, Record, seen_of
+from workbench.instructions import EMPTY
+from workbench.ranges import in_words
+from workbench.reasons import Reasons
 from workbench.table import row_of
 from workbench.trouble import Trouble
 
@@ -15,6 +18,10 @@ AT_ONCE, CALLS = 16, 4000
 BUDGET = 1_000_000
 WAITING, DELAY, RUN, BRAKING, SLOWING, EMERGENCY, BACK = range(len(PHASES))
 DELAYED, RECOVERY = "65", "69"
+# 01: "Address 99 is never answered."
+ALL_DRIVES = "99"
+# The bit of ST, which would start a program.
+START = 1 << INPUTS.index("ST")
 ERRORS = {50: "too far away", 51: "x4 is not available", 52: "the loop is not open"}
 
 
@@ -25,7 +32,9 @@ class Rig:
         self.engine, self.schedule, self.limit, self.table, self.trace = engine, schedule, limit, table, trace
         self.board, self.forward = Board(), True
         self.time, self.steps = 0, 0
-        self.cells = {}
+        self.cells = engine.cells()
+        # What a user should know of the schedule, sentences.
+        self.notes = []
         self.record = engine.record()
         self.look()
 
@@ -80,11 +89,11 @@ class Rig:
     def start(self, cell):
         """Starts a program. Lines of time 0 come first, so that inputs and presets are then as wanted."""
         self.come_due()
-        if self.record.idle:
-            self.cells = self.engine.cells()
+        if self.cells[cell] == EMPTY:
+            self.notes.append(f"cell {cell} is empty, so the program ends there; cells that hold something: {written(self.cells)}")
         answer = self.send(0, f"PS,{cell}")
         if answer is None:
-            raise Trouble("the program is not started, since the drive is busy at 0 ms; give what starts it earlier, ST=1 or a string, a later time")
+            raise Trouble(f"a line of 0 ms has started a program already, so {cell} is not started; give ST=1 or PS in {self.schedule.path} a time above 0")
         if not answer.endswith("Y"):
             raise Trouble("the program is not started, since input EE is on at 0 ms; give EE=1 a later time")
 
@@ -95,11 +104,24 @@ class Rig:
 
     def happen(self, at):
         line = self.schedule.take(at)
+        if line.kind == "clock" and line.when < at:
+            self.notes.append(f"{self.schedule.path}:{line.number}: due at {line.when} ms, it came at {at} ms, since it waits for the line above it")
         if line.string is None:
             self.change(at, line.changes)
         else:
             self.trace.string(at, line.string)
-            self.send(at, line.string)
+            self.judge(line, self.record, self.send(at, line.string))
+
+    def judge(self, line, before, answer):
+        """Notes a string that got N or no answer, with why: an idle drive of the same address and inputs is asked, and what that one answers otherwise, a busy one does not hear."""
+        string = self.addressed(line.string, before)
+        if string.startswith(ALL_DRIVES) or (answer and answer[2:] != "N"):
+            return
+        with Reasons(before.ad) as reasons:
+            reasons.give(f"I {before.inp & ~START}")
+            said = reasons.string(string)
+        why = said.why if said.answer == answer else "the drive was busy, and hears only EE and ES then"
+        self.notes.append(f"{self.schedule.path}:{line.number}: {string} got {answer or 'no answer'}: {why}")
 
     def change(self, at, changes):
         word = self.record.inp
@@ -112,13 +134,16 @@ class Rig:
 
     def send(self, at, text):
         """A string, with the drive's address in front where it has none; gives the answer."""
-        string = text if text[:2].isdigit() else f"{self.record.ad:02}{text}"
+        string = self.addressed(text, self.record)
         answer = self.engine.string(string).said()
         before = self.look()
         if answer and string[2:4] == "WN":
             self.cells = self.engine.cells()
         self.tell(at, f"{string} gets {answer or 'no answer'}", before)
         return answer
+
+    def addressed(self, text, record):
+        return text if text[:2].isdigit() else f"{record.ad:02}{text}"
 
     # Time.
 
@@ -257,6 +282,11 @@ class Rig:
         elif report == HALTED and self.order.kind == "slow":
             self.engine.call(HALTED)
             self.tell(at, "halted", self.look())
+
+
+def written(cells):
+    held = [cell for cell, text in cells.items() if text != EMPTY]
+    return in_words(held) if held else "none"
 
 
 def consequences(before, after):

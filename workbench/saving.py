@@ -4,9 +4,21 @@ import os
 import stat
 import sys
 
-from workbench.trouble import Trouble
+from workbench.trouble import Trouble, WrongWords
 
 STANDARD_OUTPUT = "-"
+
+
+def judge(out, *sources):
+    """Refuses, before any work, an output that would take the place of a file that it is made of, or that has no folder to be written in."""
+    if out is None or out == STANDARD_OUTPUT:
+        return
+    for source in sources:
+        if source and os.path.exists(source) and os.path.exists(out) and os.path.samefile(source, out):
+            raise WrongWords(f"{out} is a file that this is made of, and would be lost; name another to write")
+    folder = os.path.dirname(os.path.realpath(out))
+    if not os.path.isdir(folder):
+        raise Trouble(f"{out}: no folder {folder} is there; name a file in one that is")
 
 
 def save(path, data):
@@ -19,7 +31,8 @@ def save(path, data):
             return put_into(path, data)
         replace(os.path.realpath(path), data)
     except OSError as error:
-        raise Trouble(f"{path}: {error.strerror}; the file is as it was, name another that can be written") from None
+        kept = "; the file is as it was" if os.path.isfile(path) else ""
+        raise Trouble(f"{path}: {error.strerror}{kept}; name another that can be written") from None
 
 
 def put_out(data):

@@ -8,7 +8,9 @@ from workbench.engine import INPUTS
 from workbench.trouble import Trouble
 
 FORM = "write 500, +20 or at +2000, and then NAME=0, NAME=1 or send STRING"
-WHEN = re.compile(r"(?P<clock>\d{1,10})|\+(?P<after>\d{1,10})|at\s+(?P<place>[+-]?\d{1,10})")
+WHEN = re.compile(r"(?P<clock>[0-9]+)|\+(?P<after>[0-9]+)|at\s+(?P<place>[+-]?[0-9]+)")
+# The last millisecond that a line may name, some 116 days.
+LATEST = 10**10 - 1
 
 
 class Line(NamedTuple):
@@ -58,7 +60,7 @@ class Schedule:
 def read(path):
     """The schedule of a file, or trouble with its first wrong line."""
     try:
-        with open(path, encoding="utf-8", errors="replace") as source:
+        with open(path, encoding="utf-8-sig", errors="replace") as source:
             return Schedule(path, lines_of(path, source))
     except OSError as error:
         raise Trouble(f"{path}: {error.strerror}; name a schedule that can be read") from None
@@ -80,13 +82,20 @@ def line_of(where, number, text):
     if not when or (rest and not rest[0].isspace()):
         raise Trouble(f"{where}: {text.split()[0][:40]!r} is no time; {FORM}")
     kind = when.lastgroup
-    value = int(when[kind])
+    value = whole(when[kind])
+    if kind != "place" and value > LATEST:
+        raise Trouble(f"{where}: the time {when[kind][:40]} is too large; write at most {LATEST} milliseconds")
     if kind == "place" and not -(2**31) <= value < 2**31:
-        raise Trouble(f"{where}: the position {when[kind]} is none; write one from -2147483648 to +2147483647")
+        raise Trouble(f"{where}: the position {when[kind][:40]} is none; write one from -2147483648 to +2147483647")
     what, _, string = rest.strip().partition(" ")
     if what == "send":
         return Line(number, kind, value, {}, sent(where, string.strip()))
     return Line(number, kind, value, changes_of(where, rest.split()), None)
+
+
+def whole(text):
+    """A number; of one with very many digits, one that is as much too large."""
+    return int(text[:20])
 
 
 def sent(where, string):

@@ -7,6 +7,7 @@ import time
 
 from workbench import files, picture, saving, schedule
 from workbench.engine import FIRST, LAST, RESOLUTIONS
+from workbench.ranges import counted
 from workbench.rig import Rig
 from workbench.table import Table
 from workbench.trace import Trace
@@ -19,7 +20,7 @@ OFTEN, SELDOM = 1, 10
 # So much of a file's name stands over a picture.
 TITLE = 70
 REMEDIES = {
-    50: "the place is more than 8388607 steps away; go there in two runs",
+    50: "the place is more than 8388607 steps away; go there in several runs",
     51: "x4 is not available with RS {rs}; set RS to D2, D3, B2 or B3, or write x1",
     52: "the loop count is 0; open the loop with a 61 before its 62",
 }
@@ -38,13 +39,13 @@ def add_words(parser):
 
 
 def cell(text):
-    if not (text.isdecimal() and FIRST <= int(text) <= LAST):
+    if not (text.isascii() and text.isdecimal() and FIRST <= int(text) <= LAST):
         raise argparse.ArgumentTypeError(f"{text!r} is no cell; give one from {FIRST} to {LAST}")
     return int(text)
 
 
 def limit(text):
-    if not (text.isdecimal() and 1 <= int(text) <= LONGEST):
+    if not (text.isascii() and text.isdecimal() and 1 <= int(text) <= LONGEST):
         raise argparse.ArgumentTypeError(f"{text!r} is no number of milliseconds; give one from 1 to {LONGEST}")
     return int(text)
 
@@ -56,12 +57,10 @@ def picture_file(text):
 
 
 def run(options):
+    saving.judge(options.svg, options.file, options.inputs)
     lines = schedule.read(options.inputs) if options.inputs else schedule.Schedule()
-    engine = files.loaded(options.file)
-    try:
+    with files.loaded(options.file) as engine:
         return ran(engine, lines, options)
-    finally:
-        close(engine)
 
 
 def ran(engine, lines, options):
@@ -75,14 +74,6 @@ def ran(engine, lines, options):
         raise
     finish(rig, how(rig), options)
     return judged(rig)
-
-
-def close(engine):
-    """An engine that an interrupt has ended too is closed without a word."""
-    try:
-        engine.close()
-    except OSError:
-        pass
 
 
 def go(rig, start):
@@ -128,7 +119,7 @@ def how(rig):
 
 def finish(rig, ending, options):
     """The last line, and the picture."""
-    rig.table.end(f"{rig.steps} steps made, {rig.time} ms, position {rig.position:+}: {ending}")
+    rig.table.end(f"{counted(rig.steps, 'step')} made, {rig.time} ms, position {rig.position:+}: {ending}")
     sys.stdout.flush()
     rig.trace.ended(rig.time)
     if options.svg:
@@ -143,7 +134,9 @@ def title(path):
 
 
 def judged(rig):
-    """The status, with a sentence for what a user should know."""
+    """The status, with sentences for what a user should know."""
+    for note in rig.notes:
+        say(files.TOOL, note)
     if stopped(rig):
         say(files.TOOL, f"stopped at {rig.time} ms: the {unfinished(rig)} has not ended; --limit gives it longer")
     elif rig.schedule.next():

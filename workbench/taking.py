@@ -3,15 +3,13 @@
 import argparse
 import datetime
 import re
-import sys
 
-from workbench import files, lines
-from workbench.asking import sent, taken
+from workbench import files, lines, saving
+from workbench.asking import named, sent, taken
 from workbench.lines import BAUD, LINES, PARITIES
 from workbench.played import played
 from workbench.reading import HIGHEST_ADDRESS, text_of
-from workbench.saving import save
-from workbench.trouble import WrongWords
+from workbench.trouble import Trouble, WrongWords
 
 CONSOLE, SCRIPT = "console", "script"
 LONGEST_TIMEOUT = 600
@@ -43,7 +41,7 @@ def add_words(parser):
     parser.epilog = EPILOG
     parser.add_argument("source", metavar="FROM", help="where the drive is, see below")
     parser.add_argument("-o", dest="out", metavar="FILE", help="the reading; without it, standard output. An old file stays until the new one is whole")
-    parser.add_argument("--address", metavar="NN", type=address, help="the drive's address, 00 to 47 (00; of a script, that of its drive)")
+    parser.add_argument("--address", metavar="NN", type=address, help="the drive's address, 00 to 47 (00; of console and script, that of their drive)")
     parser.add_argument("--timeout", metavar="S", type=seconds, default=1.0, help="seconds of silence after which no answer is awaited (1)")
     parser.add_argument("--baud", metavar="N", type=int, default=BAUD, help="speed of a tty (9600)")
     parser.add_argument("--parity", choices=PARITIES, default="none", help="parity of a tty (none)")
@@ -54,13 +52,11 @@ def add_words(parser):
 def run(options):
     if options.send and options.source != CONSOLE:
         raise WrongWords("--send goes with console alone, since a reading changes nothing of a drive in use; leave it out")
+    saving.judge(options.out, options.send, options.source.partition(":")[2])
     reading = from_source(options)
     notes = [f"taken at {datetime.datetime.now().astimezone().isoformat(timespec='seconds')}"] if options.date else []
     text = text_of(reading, notes)
-    if options.out is None:
-        sys.stdout.write(text)
-    else:
-        save(options.out, text.encode())
+    saving.save(options.out or saving.STANDARD_OUTPUT, text.encode())
 
 
 def from_source(options):
@@ -76,13 +72,31 @@ def from_source(options):
 
 
 def from_console(options):
-    strings = files.lines_of(options.send) if options.send else []
+    """A drive of the console, made with the address that the file names, as bin/program has it."""
+    strings = strings_of(options.send) if options.send else []
+    first = files.first_address(strings)
     with lines.console() as line:
-        own = sent(line, options.send, strings, options.timeout)
-        return taken(line, own if options.address is None else options.address, options.timeout)
+        named(line, first, options.timeout)
+        own = sent(line, options.send, strings, first, options.timeout)
+        judge(options.address, own)
+        busy = f"{options.send}: the drive is still busy after the last line; let its program end, or leave out the PS"
+        return taken(line, own, options.timeout, busy)
+
+
+def strings_of(path):
+    if files.is_image(files.content(path)):
+        raise Trouble(f"{path}: an image, and --send takes a program file; bin/program show makes one of it")
+    return files.lines_of(path)
 
 
 def from_script(path, options):
     with played(path) as engine:
         own = engine.record().ad
-        return taken(engine, own if options.address is None else options.address, options.timeout)
+        judge(options.address, own)
+        return taken(engine, own, options.timeout)
+
+
+def judge(wanted, own):
+    """Of a drive that is made here the address is known."""
+    if wanted not in (None, own):
+        raise WrongWords(f"the drive has address {own:02}, and not {wanted:02}; leave out --address")

@@ -19,7 +19,6 @@ try:
 except ImportError:  # A python3 without it: lines are typed without history.
     readline = None
 
-PROMPT = "00> "
 WELCOME = "One drive of address 00: type a string and Enter, for example 00QA. ? helps, Ctrl-D ends."
 IN_A_RUN = (
     "a run is under way and does not end here, since the console has no pulse board that makes its steps; "
@@ -34,12 +33,14 @@ BEAT = 0.2
 
 
 class Exchange(NamedTuple):
-    """What the engine answers to a string and what the second implementation does, None where neither answers; why; whether a run is then under way."""
+    """What the engine answers to a string and what the second implementation does, None where neither answers; why; whether a run is then under way; and
+    the address that the drive then has."""
 
     answer: Optional[str]
     other: Optional[str]
     why: str
     moving: bool
+    own: int
 
 
 class Console:
@@ -61,6 +62,7 @@ class Console:
         """Gives a string, to which byte 13 is added, to both."""
         said = self.reasons.string(data)
         end, _ = self.reasons.wait(WAIT)
+        own = self.reasons.address()
         try:
             write(self.process.stdin.fileno(), data + b"\r")
         except BrokenPipeError:
@@ -68,7 +70,7 @@ class Console:
         answer = self.read(GLANCE if said.answer is None else PATIENCE)
         if answer is None and said.answer is not None:
             raise Trouble(f"the program console gave no answer within {PATIENCE} seconds, where {said.answer} is due; start bin/console again")
-        return Exchange(answer, said.answer, said.why, end == "moving")
+        return Exchange(answer, said.answer, said.why, end == "moving", own)
 
     def read(self, seconds):
         """An answer without its byte 13, None where none comes in time."""
@@ -106,13 +108,13 @@ class Interrupts:
     def stop(self, *_):
         raise Stopped
 
-    def line(self):
+    def line(self, prompt):
         """A line that is typed, None where it is dropped."""
         try:
             self.typing = True
             # A signal that comes right before the wait for a key would be noticed at the next key alone, were it not for a beat.
             signal.setitimer(signal.ITIMER_REAL, BEAT, BEAT)
-            return input(PROMPT)
+            return input(prompt)
         except Stopped:
             raise
         except KeyboardInterrupt:
@@ -129,18 +131,25 @@ class Session:
     def __init__(self, console, answers):
         self.console = console
         self.answers = answers
+        self.own = 0
         self.hinted = False
+
+    def prompt(self):
+        return f"{self.own:02}> "
 
     def typed(self, line):
         if line.strip().startswith("?"):
-            print(help_text(line.strip()[1:].split()))
+            print(help_text(line.strip()[1:].split(), self.own))
             return
         # A 13 that is typed by force ends a string as Enter does.
         for data in line.encode("utf-8", "surrogateescape").split(b"\r"):
             if data:
                 self.show(self.console.string(data))
+                if not data[:2].isdigit():
+                    print("? helps, Ctrl-D ends")
 
     def show(self, exchange):
+        self.own = exchange.own
         if exchange.answer is not None:
             print(exchange.answer, file=self.answers, flush=True)
         if exchange.answer != exchange.other:
@@ -195,7 +204,7 @@ def talk():
 def converse(session, interrupts):
     while True:
         try:
-            line = interrupts.line()
+            line = interrupts.line(session.prompt())
         except EOFError:
             print()
             return

@@ -13,7 +13,8 @@ pub struct Explain {
 
 impl Explain {
     /// Carries out one line, given without its line feed. Gives for a string its answer and why,
-    /// for a wait its end and where the drive then is, nothing for other lines, or a complaint.
+    /// for a wait its end and where the drive then is, for a V the record, nothing for other lines,
+    /// or a complaint.
     pub fn line(&mut self, line: &str) -> Result<String, String> {
         let before = self.replay.drive().copied();
         let observations = self.replay.line(line)?;
@@ -26,6 +27,7 @@ impl Explain {
             (["W", _], [refused, _, _, end, ..], _, Some(after)) => {
                 Ok(format!("{end} {}\n", whither(after, refused)))
             }
+            (["V"], [_, record, ..], _, _) => Ok(format!("{record} \n")),
             _ => Ok(String::new()),
         }
     }

@@ -67,6 +67,11 @@ class Terminal:
     def prompt(self):
         return self.until(rf"(\A|\n){PROMPT}")
 
+    def until_prompt(self, keys, prompt):
+        """What is shown below a line that is typed, down to another prompt."""
+        os.write(self.end, keys.encode("latin-1") + b"\r")
+        return self.until(rf"(\A|\n){prompt}").partition("\n")[2]
+
     def typed(self, keys):
         """What is shown below a line that is typed, down to the next prompt."""
         os.write(self.end, keys.encode("latin-1") + b"\r")
@@ -104,7 +109,7 @@ def answers():
     yield "and carried out", "00QS,IN,2\n", terminal.typed("00QS,IN")
     yield "no address", True, terminal.typed("QA").startswith("no answer: the first two characters are not digits")
     yield "bytes that are no text", True, terminal.typed("00Q\xff\xc3").startswith("00N\n")
-    yield "its own address changed", ("00Y\n", "05QA,+0\n"), (terminal.typed("00WS,AD,5"), terminal.typed("05QA"))
+    yield "its own address changed", ("00Y\n05> ", "05QA,+0\n05> "), (terminal.until_prompt("00WS,AD,5", "05> "), terminal.until_prompt("05QA", "05> "))
     yield "Ctrl-D", ("\n", 0), terminal.left()
 
 
@@ -198,6 +203,11 @@ def help_texts():
         yield f"? {topic.code}", [], missing
     yield "? of two, small letters", 2, terminal.typed("?wn 01").count("For example")
     yield "? of no code", "There is no code XY; ? lists them.\n", terminal.typed("? XY")
+    yield "? of a preset", "AD: address of the drive, 0 to 47\n", terminal.typed("? AD")
+    yield "a word that is no string", True, terminal.typed("quit").endswith("address, 00\n? helps, Ctrl-D ends\n")
+    yield "the prompt has the address", "00Y\n07> ", terminal.until_prompt("00WS,AD,7", "07> ")
+    yield "help has the address", "QA: position\n  Asks the absolute position: steps forward less steps back.\n  For example 07QA\n07> ", terminal.until_prompt("? QA", "07> ")
+    yield "back to 00", "07Y\n", terminal.typed("07WS,AD,0")
     yield "Ctrl-D", ("\n", 0), terminal.left()
 
 

@@ -73,10 +73,10 @@ DAMAGED = [
     ([("QM,117,65,400,118", "QM,117,65,400 118")], ":19: "),
     ([("QM,117,65,400,118", "QM,117,65,\x07")], ":19: '07QM,117,65,\\x07' is no answer"),
     ([("QM,117,65,400,118", "QM,117,65," + "4" * 70)], ":19: "),
-    ([("QM,117,65,400,118", "QM,117,65,8388608,118")], ":19: no drive with these other answers gives 07QM,117,65,8388608,118"),
+    ([("QM,117,65,400,118", "QM,117,65,8388608,118")], ":19: no drive gives 07QM,117,65,8388608,118 beside the other answers"),
     ([("QM,117,65,400,118", "QM,117,65,0400,118")], ":19: no drive"),
-    ([("QM,130,00,000", "QM,130,21,2200,+7,x1,000")], ":32: no drive with these other answers gives 07QM,130,21,2200,+7,x1,000: "
-        "one brought as near as calls bring it answers 07QM,130,21,2181,+7,x1,000 at best"),
+    ([("QM,130,00,000", "QM,130,21,2200,+7,x1,000")], ":32: no drive gives 07QM,130,21,2200,+7,x1,000 beside the other answers: "
+        "one that was given the calls for it answers 07QM,130,21,2181,+7,x1,000"),
     ([("QM,130,00,000", "QM,130,57,0,+7,000")], ":32: no drive"),
     ([("QS,AD,7", "QS,AD,8")], ":133: no drive"),
     ([("QS,IN,2", "QS,IN,4")], ":134: no drive"),

@@ -85,7 +85,15 @@ def console(folder):
     wrong = folder.file("wrong", "WN,100,65,50,000\nWN,231,65,50,000\n")
     yield from Ran("take", "console", "--send", wrong).faults(1, "", "wrong:2: 00WN,231,65,50,000 got 00N; bin/program check says why")
     busy = folder.file("busy", "WN,100,12,02,+,x1,000\nPS,100\n")
-    yield from Ran("take", "console", "--send", busy, "--timeout", "0.2").faults(1, "", "no answer at 00QM,100, request 1 of 165 in 0.2 s")
+    yield from Ran("take", "console", "--send", busy, "--timeout", "0.2").faults(1, "", "busy: the drive is still busy after the last line")
+    yield from Ran("take", "console", "--address", "7").faults(2, "", "the drive has address 00, and not 07; leave out --address")
+    addressed = folder.file("addressed", "11WN,100,65,50,000\nWN,101,65,60,000\n")
+    yield from Ran("take", "console", "--send", addressed, "-o", out).faults(0, "")
+    text = Path(out).read_text()
+    yield from (f"{part!r} is not in the reading" for part in ["\n11QM,101,65,60,000\n", "\n11QS,AD,11\n"] if part not in text)
+    yield from Ran("take", "console", "--send", addressed, "-o", addressed).faults(2, "", "addressed is a file that this is made of, and would be lost")
+    image = folder.file("image", "\x00\x01\x02\x00\x00")
+    yield from Ran("take", "console", "--send", image).faults(1, "", "an image, and --send takes a program file; bin/program show makes one of it")
 
 
 def scripts(folder):
@@ -98,7 +106,7 @@ def scripts(folder):
     yield from Ran("take", script("early", ["M"])).faults(1, "", "line 1: the first call is not an ")
     yield from Ran("take", script("empty", ["# nothing"])).faults(1, "", "no call is in it")
     yield from Ran("take", "script:" + folder.file("none")).faults(1, "", "No such file or directory")
-    yield from Ran("take", script("full", full_script()), "--address", "8").faults(1, "", "no answer at 08QM,100")
+    yield from Ran("take", script("full", full_script()), "--address", "8").faults(2, "", "the drive has address 07, and not 08; leave out --address")
 
 
 NO_LINES = ["", "tty:", "serial:x", "tcp:localhost", "tcp:localhost:99999", "tcp::80"]
@@ -111,7 +119,7 @@ def places(folder):
     yield from Ran("take", "tty:" + folder.file("file", "")).faults(1, "", "no tty")
     yield from Ran("take", "tty:/dev/null").faults(1, "", "so no tty of 9600 baud and parity none")
     yield from Ran("take", "tcp:127.0.0.1:9").faults(1, "", "refused")
-    yield from Ran("take", "console", "-o", folder.file("none/reading")).faults(1, "", "No such file or directory")
+    yield from Ran("take", "console", "-o", folder.file("none/reading")).faults(1, "", "none/reading: no folder ")
     yield from (fault for source in NO_LINES for fault in Ran("take", source).faults(2, "", "give t"))
     yield from Ran("take", "tty:/dev/null", "--baud", "9601").faults(2, "", "no tty has 9601 baud")
     yield from Ran("take", "unix:x", "--send", "y").faults(2, "", "--send goes with console alone")

@@ -1,4 +1,4 @@
-//! `reference explain`: a script of calls, and a line for each string and each wait.
+//! `reference explain`: a script of calls, and a line for each string, each wait and each record.
 
 use reference::explain::Explain;
 use reference::generate::script;
@@ -22,7 +22,7 @@ fn call(string: &str) -> String {
 }
 
 #[test]
-fn strings_and_waits_have_a_line_and_other_calls_have_none() {
+fn strings_waits_and_records_have_a_line_and_other_calls_have_none() {
     explained(&[
         ("F 0", ""),
         ("# a comment", ""),
@@ -37,6 +37,7 @@ fn strings_and_waits_have_a_line_and_other_calls_have_none() {
         ("W 2999", "spent cell 100 is under way (delay, 1 ms left)"),
         ("W 5", "moving a run is under way at cell 101"),
         ("M", ""),
+        ("V", "0,1,2,0,0,+0,0,0,+0,0,0,0,+0,0,101,2,+2,0,0 "),
         ("s 00QA", "- the drive is busy with a run at cell 101, and hears only EE and ES"),
         ("P", ""),
         ("W 1", "moving a run is under way at cell 101"),
@@ -100,6 +101,7 @@ fn generated_scripts_are_told_as_replay_sees_them() {
                 assert_eq!(word, seen[3], "{line}");
                 assert_eq!(sentence.is_empty(), word == "idle", "{line}: {said}");
             }
+            "V" => assert_eq!(said, format!("{} \n", seen[1])),
             _ => assert_eq!(said, "", "{line}"),
         });
     }
