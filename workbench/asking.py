@@ -3,14 +3,14 @@
 import re
 import time
 
+from workbench.engine import ALL_DRIVES, HIGHEST_ADDRESS
 from workbench.files import shown
 from workbench.lines import Closed
 from workbench.progress import progress
-from workbench.reading import HIGHEST_ADDRESS, LONGEST, PASSING, REQUESTS, Reading, is_value
+from workbench.reading import LONGEST, PASSING, REQUESTS, Reading, is_value
 from workbench.trouble import Trouble
 
 END = b"\r"
-ALL_DRIVES = "99"
 # A line that is used by nobody else is silent for so many seconds, and within so many.
 QUIET, PATIENCE = 0.05, 2
 
@@ -139,7 +139,6 @@ def sent(line, path, strings, own, timeout):
 
 def give(talk, text):
     if text.startswith(ALL_DRIVES):
-        # 01: "Address 99 is never answered."
         return talk.send(text)
     answer = talk.say(text)
     if answer is None or answer[2:] == b"N":

@@ -92,7 +92,7 @@ def talk():
     if sys.stdin is None:
         raise Trouble("standard input is closed: give it strings, for example: printf '00QA\\r' | bin/console")
     words = [build.program("console")]
-    # A session of its own, so that an interrupt reaches the program by this one alone.
+    # Apart from this one's group, so that an interrupt reaches the program by this one alone.
     process = subprocess.Popen(words, stdin=subprocess.PIPE, stdout=subprocess.PIPE, bufsize=0, start_new_session=True)
     try:
         feed = Feed(process.stdin)

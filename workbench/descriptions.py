@@ -4,14 +4,9 @@ import re
 
 from workbench.engine import CELLS, INPUTS
 from workbench.files import PRESETS
-from workbench.instructions import END, NAMES, code_of, next_of
+from workbench.instructions import END, ERRORS, NAMES, code_of, next_of
 from workbench.reading import OUTPUTS
 
-ERRORS = {
-    50: "shift beyond 8,388,607 steps in absolute mode",
-    51: "x4 with an operation mode that has none",
-    52: "closing loop with loop count 0",
-}
 # What a frequency field counts in, in Hz.
 SCALES = {"01": 1000, "02": 1000, "03": 1000, "05": 1000, "31": 100, "32": 100, "11": 100, "12": 100, "21": 1, "22": 1}
 SWITCH = {"0": "off", "1": "on"}

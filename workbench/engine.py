@@ -10,6 +10,9 @@ from workbench.trouble import Trouble
 # So many calls are on their way at once: fewer than fill a pipe either way.
 AT_ONCE = 256
 FIRST, LAST = 100, 230
+HIGHEST_ADDRESS = 47
+# 01: "Address 99 is never answered."
+ALL_DRIVES = "99"
 CELLS = range(FIRST, LAST + 1)
 INPUTS = ["I0", "I1", "I2", "PX", "S0", "S1", "S2", "S3", "ST", "ES", "EE"]
 OUTPUTS = ["O0", "O1", "O2", "O3", "F0", "F1", "F2", "F3", "F4", "F5", "F6", "F7", "FC", "CU"]

@@ -3,7 +3,7 @@
 import re
 from typing import NamedTuple, Optional
 
-from workbench.engine import OUTPUTS, Engine, Record, string_call
+from workbench.engine import HIGHEST_ADDRESS, OUTPUTS, Engine, Record, string_call
 from workbench.instructions import EMPTY, name_of
 from workbench.ranges import counted
 from workbench.reasons import Reasons
@@ -19,7 +19,6 @@ INSTEAD = "give a program file, text with a string a line ended by a line feed, 
 # What text has none of: control bytes but the tab. Line ends are taken off before.
 CONTROL = re.compile(r"[\x00-\x08\x0a-\x1f\x7f]")
 ADDRESS = re.compile(r"[0-9]{2}")
-HIGHEST_ADDRESS = 47
 # Of a string so much is shown.
 SHOWN = 64
 

@@ -23,6 +23,8 @@ NAMES = {
     "62": "closing loop",
     "60": "absolute position counter reset",
 }
+# The errors that end a program, in few words.
+ERRORS = {50: "too far away", 51: "x4 is not available", 52: "the loop is not open"}
 # What every cell of a fresh drive holds.
 EMPTY = "00,000"
 END = 0

@@ -11,7 +11,7 @@ class Process:
 
     def __init__(self, name, words, complaints=None):
         self.name = name
-        # A session of its own: a Ctrl-C is for the tool.
+        # Apart from the tool's group of processes: a Ctrl-C is for the tool.
         self.process = subprocess.Popen(words, stdin=subprocess.PIPE, stdout=subprocess.PIPE, stderr=complaints, start_new_session=True)
 
     def __enter__(self):

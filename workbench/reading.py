@@ -3,7 +3,7 @@
 import re
 from typing import NamedTuple, Optional
 
-from workbench.engine import CELLS, INPUTS, string_call
+from workbench.engine import CELLS, HIGHEST_ADDRESS, INPUTS, string_call
 from workbench.files import PRESETS, front, shown
 from workbench.trouble import Trouble
 
@@ -13,7 +13,6 @@ STORED = [*(f"QM,{cell}" for cell in CELLS), *(f"QS,{name}" for name in PRESETS)
 # What a program or a switch can change: all that follows cells and presets.
 PASSING = ["QA", *(f"QO,{name}" for name in OUTPUTS), *(f"QI,{name}" for name in INPUTS), "QC", "QE", "QR"]
 REQUESTS = STORED + PASSING
-HIGHEST_ADDRESS = 47
 # 01: "over 64 bytes with the 13".
 LONGEST = 63
 # A reading has 6 KB at most; what is longer is another file.

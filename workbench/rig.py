@@ -5,8 +5,8 @@ What happens between one millisecond and the next, the steps and what the board 
 from itertools import islice
 
 from workbench.board import AT_SPEED, HALTED, Board
-from workbench.engine import INPUTS, PHASES, Record, seen_of
-from workbench.instructions import EMPTY
+from workbench.engine import ALL_DRIVES, INPUTS, PHASES, Record, seen_of
+from workbench.instructions import EMPTY, ERRORS
 from workbench.ranges import in_words
 from workbench.reasons import Reasons
 from workbench.table import row_of
@@ -18,11 +18,8 @@ AT_ONCE, CALLS = 16, 4000
 BUDGET = 1_000_000
 WAITING, DELAY, RUN, BRAKING, SLOWING, EMERGENCY, BACK = range(len(PHASES))
 DELAYED, RECOVERY = "65", "69"
-# 01: "Address 99 is never answered."
-ALL_DRIVES = "99"
 # The bit of ST, which would start a program.
 START = 1 << INPUTS.index("ST")
-ERRORS = {50: "too far away", 51: "x4 is not available", 52: "the loop is not open"}
 
 
 class Rig:

@@ -6,9 +6,10 @@ import re
 
 from workbench import files, lines, saving
 from workbench.asking import named, sent, taken
+from workbench.engine import HIGHEST_ADDRESS
 from workbench.lines import BAUD, LINES, PARITIES
 from workbench.played import played
-from workbench.reading import HIGHEST_ADDRESS, text_of
+from workbench.reading import text_of
 from workbench.trouble import Trouble, WrongWords
 
 CONSOLE, SCRIPT = "console", "script"

@@ -49,7 +49,7 @@ class Console:
     def __init__(self):
         words = [build.program("console")]
         self.reasons = Reasons()
-        # A session of its own: Ctrl-C is for the line that is typed.
+        # Apart from the terminal's group: Ctrl-C is for the line that is typed.
         self.process = subprocess.Popen(words, stdin=subprocess.PIPE, stdout=subprocess.PIPE, bufsize=0, start_new_session=True)
         self.rest = b""
 
@@ -125,7 +125,7 @@ class Interrupts:
             self.typing, self.since = False, time.monotonic()
 
 
-class Session:
+class Dialogue:
     """What is typed and what is shown. Answers have an output of their own; all else is printed."""
 
     def __init__(self, console, answers):
@@ -193,20 +193,20 @@ def talk():
     """Takes lines until Ctrl-D."""
     console = Console()
     try:
-        session = Session(console, answers_output())
+        dialogue = Dialogue(console, answers_output())
         prepare()
         print(WELCOME)
-        converse(session, Interrupts())
+        converse(dialogue, Interrupts())
     finally:
         console.close()
 
 
-def converse(session, interrupts):
+def converse(dialogue, interrupts):
     while True:
         try:
-            line = interrupts.line(session.prompt())
+            line = interrupts.line(dialogue.prompt())
         except EOFError:
             print()
             return
         if line:
-            session.typed(line)
+            dialogue.typed(line)

@@ -30,8 +30,8 @@ DIFFERENCES = [
     ([("QI,ST,0", "QI,ST,1")], "input ST: off against on", "QI,ST"),
     ([("QI,PX,1", "QI,PX,0"), ("QI,EE,0", "QI,EE,1")], "input PX: on against off\n  input EE: off against on", "QI,PX"),
     ([("QC,1,+1234567", "QC,0")], "cam: set at +1234567 against not set", "QC"),
-    ([("QE,52,103", "QE,00,000")], "error: 52 at cell 103 (closing loop with loop count 0) against none", "QE"),
-    ([("QE,52,103", "QE,50,117"), ("QR,117,+350,7", "QR,000")], "against 50 at cell 117 (shift beyond 8,388,607 steps in absolute mode)\n"
+    ([("QE,52,103", "QE,00,000")], "error: 52 at cell 103 (the loop is not open) against none", "QE"),
+    ([("QE,52,103", "QE,50,117"), ("QR,117,+350,7", "QR,000")], "against 50 at cell 117 (too far away)\n"
         "  interrupted program: cell 117, rest +350 ms, loop count 7 against none", "QE"),
     ([("+350,7", "+400,65535")], "interrupted program: cell 117, rest +350 ms, loop count 7 against cell 117, rest +400 ms, loop count 65535", "QR"),
     ([("QR,117,+350,7", "QR,120,-8388607,0")], "against cell 120, rest -8388607 steps, loop count 0", "QR"),
