@@ -16,7 +16,7 @@ use observed::sums::Sum;
 use totals::along;
 use units::{CellAddress, Milliseconds};
 
-#[derive(Drop)]
+#[derive(Clone, Copy)]
 pub enum Event {
     Inputs,
     Millisecond,
@@ -25,7 +25,7 @@ pub enum Event {
 }
 
 // Positions of one digit, of ten digits, and of six under zero.
-#[derive(Drop)]
+#[derive(Clone, Copy)]
 pub enum Place {
     Small,
     Ten,

@@ -1,6 +1,8 @@
 // Benchmarks of the public calls: reads one line `NAME COUNT` from standard input, makes that many
 // calls on one drive, and writes a sum of what each call showed. bin/bench times it beside the
 // second implementation, which does the same for the same line.
+#![tactic(auto)]
+
 mod calls;
 mod memory;
 mod sums;

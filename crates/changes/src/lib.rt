@@ -1,6 +1,8 @@
 // What taking a cell and a millisecond change, code by code. A millisecond carries the change out
 // by value, a wait in place, where a state handed on by value would be copied. A run that begins
 // and a 69 change more.
+#![tactic(auto)]
+
 ghost use Rattle.std.specs.Prelude.{◌<◌, ◌≡◌, true};
 ghost use Rattle.laws.specs.Tests.{choose, same};
 ghost use Rattle.instruction.specs.Soundness.{cell_sound};
@@ -15,7 +17,7 @@ use progress::{at_rest, passed};
 use units::{CellAddress, Milliseconds, Position};
 
 // What changes of a state.
-#[derive(Drop)]
+#[derive(Clone, Copy)]
 pub enum Change {
     // Nothing, while a run is under way.
     Nothing,

@@ -1,5 +1,7 @@
 // 01's console: strings from standard input, each given to one drive of address 00, then a wait
 // of 1,000; answers to standard output.
+#![tactic(auto)]
+
 ghost use Rattle.std.specs.Prelude.{◌≡◌, [], length, take};
 ghost use Rattle.machine.specs.Record.{fresh};
 ghost use Rattle.console.specs.Console.{console, standing};
@@ -18,7 +20,7 @@ const STANDARD_INPUT: i32 = 0;
 const STANDARD_OUTPUT: i32 = 1;
 
 // How many bytes were handed to standard output, and whether it took them all.
-#[derive(Drop)]
+#[derive(Clone, Copy)]
 pub struct Handed {
     pub count: usize,
     pub taken: bool,
@@ -26,7 +28,7 @@ pub struct Handed {
 
 // The drive, how many bytes there are of the string under way, how many were read and how many
 // handed to standard output, and whether to go on.
-#[derive(Drop)]
+#[derive(Clone, Copy)]
 pub struct Exchange {
     pub drive: Drive,
     pub length: usize,

@@ -9,7 +9,7 @@ use lines::strings::take_string;
 use units::Milliseconds;
 
 // The drive after a string and its wait, and the place after the answer.
-#[derive(Drop)]
+#[derive(Clone, Copy)]
 pub struct Answered {
     pub drive: Drive,
     pub written: usize,
@@ -35,7 +35,7 @@ fn answer(drive: Drive, string: &[u8], out: &mut [u8], written: usize) -> Answer
 
 // The drive after a part of the input, how many bytes there are of the string under way, and how
 // many bytes of answers.
-#[derive(Drop)]
+#[derive(Clone, Copy)]
 pub struct Served {
     pub drive: Drive,
     pub length: usize,

@@ -4,7 +4,7 @@ ghost use Rattle.decimal.specs.Parsing.{value_from, number_of, fixed_of, within,
 ghost use Rattle.decimal.specs.Parsing.{signed_of, optional_of};
 
 // What a field says: a number of 32 bits, or none.
-#[derive(Drop)]
+#[derive(Clone, Copy)]
 pub enum Number {
     Value(u32),
     Bad,

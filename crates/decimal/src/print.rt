@@ -9,7 +9,7 @@ const POWERS: [u32; 10] = [
 ];
 
 // A digit as a byte, and what is left of the number.
-#[derive(Drop)]
+#[derive(Clone, Copy)]
 pub struct Digit {
     pub byte: u8,
     pub left: u32,

@@ -1,6 +1,8 @@
 // The drive of 01: one value that holds all of it, and a method for each operation. Each method
 // takes the drive by value and hands back the next one, or a refusal and the drive as it came. Each
 // contract equates what is handed back with the call of 01 that demand 3's lists are made of.
+#![tactic(auto)]
+
 use machine::Machine;
 use units::CellAddress;
 
@@ -13,7 +15,7 @@ mod wrapping;
 
 // A drive: the record of machine, whole. Its fields lie open; an operation checks the record before
 // it does anything else.
-#[derive(Drop)]
+#[derive(Clone, Copy)]
 pub struct Drive {
     pub machine: Machine,
 }

@@ -4,14 +4,14 @@ use machine::answers::BoardOrder;
 pub use operations::results::{Ending, Refusal};
 
 // After an event: the next drive, or a refusal and the drive as it came.
-#[derive(Drop)]
+#[derive(Clone, Copy)]
 pub struct Done {
     pub refusal: Refusal,
     pub drive: Drive,
 }
 
 // After a string: the same, and how many bytes at the front of the buffer answer it; 0 is silence.
-#[derive(Drop)]
+#[derive(Clone, Copy)]
 pub struct Told {
     pub refusal: Refusal,
     pub length: usize,
@@ -19,7 +19,7 @@ pub struct Told {
 }
 
 // After a wait: the same, and how it ended.
-#[derive(Drop)]
+#[derive(Clone, Copy)]
 pub struct Waited {
     pub refusal: Refusal,
     pub ending: Ending,
@@ -27,7 +27,7 @@ pub struct Waited {
 }
 
 // The order to the board.
-#[derive(Drop)]
+#[derive(Clone, Copy)]
 pub enum Ordered {
     Refused(Refusal),
     Order(BoardOrder),

@@ -1,5 +1,7 @@
 // The words of a list of calls, as bytes: which word stands at the front, how many bytes it takes,
 // how many bytes can be seen of it; and whether a whole list is well formed and has room.
+#![tactic(auto)]
+
 ghost use Rattle.std.specs.Prelude.{◌≡◌};
 ghost use Rattle.encoding.specs.Words.{head_of, size_of, room_of};
 ghost use Rattle.encoding.specs.Refusing.{number_of, refusal_of};
@@ -9,7 +11,7 @@ pub mod reading;
 use reading::{byte_at, number_at, pair_at};
 
 // What stands at the front of a list. The text of a string follows its four bytes.
-#[derive(Drop)]
+#[derive(Clone, Copy)]
 pub enum Head {
     // A byte that begins no word.
     NoWord,
@@ -25,7 +27,7 @@ pub enum Head {
 }
 
 // Why a list is refused whole.
-#[derive(Drop)]
+#[derive(Clone, Copy)]
 pub enum Refusal {
     // Not refused.
     None,

@@ -8,7 +8,7 @@ use crate::names;
 use crate::names::Names;
 use decimal::parse::Number;
 
-#[derive(Drop)]
+#[derive(Clone, Copy)]
 pub enum Kind {
     // Exactly so many digits, from least to greatest.
     Fixed(usize, u32, u32),

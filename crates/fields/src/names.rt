@@ -4,7 +4,7 @@ ghost use Rattle.fields.specs.Names.{list_of, place_from};
 
 use decimal::parse::Number;
 
-#[derive(Drop)]
+#[derive(Clone, Copy)]
 pub enum Names {
     // What 58 and SO set.
     Settable,

@@ -3,14 +3,14 @@ ghost use Rattle.std.specs.Prelude.{◌≡◌, ◌+◌, ◌≤◌, length, drop}
 ghost use Rattle.fields.specs.Reader.{field_length, field_at};
 
 // A string and a place in it.
-#[derive(Drop)]
+#[derive(Clone, Copy)]
 pub struct Reader<'a> {
     pub src: &'a [u8],
     pub at: usize,
 }
 
 // Where the next field lies, or that there is none.
-#[derive(Drop)]
+#[derive(Clone, Copy)]
 pub enum Extent {
     Field { start: usize, end: usize },
     Missing,

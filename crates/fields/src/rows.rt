@@ -12,7 +12,7 @@ use crate::reader::{Extent, Reader};
 use decimal::parse::Number;
 
 // Up to six kinds, of which the first `count` count.
-#[derive(Drop)]
+#[derive(Clone, Copy)]
 pub struct Row {
     pub count: usize,
     pub k0: Kind,
@@ -25,7 +25,7 @@ pub struct Row {
 
 // The values of a row's fields and the place after them; no value at all where a field is wrong or
 // missing.
-#[derive(Drop)]
+#[derive(Clone, Copy)]
 pub struct Parsed {
     pub ok: bool,
     pub at: usize,

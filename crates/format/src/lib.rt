@@ -1,4 +1,6 @@
 // The fields that follow each code: one row of kinds to a code.
+#![tactic(auto)]
+
 ghost use Rattle.std.specs.Prelude.{◌≡◌, true, [], ◌∷◌};
 ghost use Rattle.format.specs.Formats.{format_with, format_of, fields_of, field_count, signed_place};
 
@@ -35,7 +37,7 @@ const CELL: Kind = Kind::Fixed(3, 100, 230);
 const BIT: Kind = Kind::Fixed(1, 0, 1);
 
 // Whether there is such a code, and the row of its fields. Past them each kind is Next.
-#[derive(Drop)]
+#[derive(Clone, Copy)]
 pub struct Format {
     pub known: bool,
     pub row: Row,

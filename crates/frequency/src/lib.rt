@@ -1,4 +1,6 @@
 // The step frequencies of the board, and rounding down to one of them.
+#![tactic(auto)]
+
 mod table;
 
 ghost use Rattle.std.specs.Prelude.{◌≡◌};
@@ -8,7 +10,7 @@ ghost use Rattle.frequency.specs.Rounding.{rounded_of};
 use table::FREQUENCIES;
 
 // A step frequency: its place in the table, from 0.
-#[derive(Drop)]
+#[derive(Clone, Copy)]
 pub struct Frequency(pub u16);
 
 impl Frequency {
@@ -49,7 +51,7 @@ pub fn place(value: u32) -> Frequency
 }
 
 // What a value is stored as, or the number of the refusal.
-#[derive(Drop)]
+#[derive(Clone, Copy)]
 pub enum Rounded {
     Value(u16),
     Refused(u8),

@@ -5,7 +5,7 @@ ghost use Rattle.image.specs.Results.{number_of};
 use drive::Drive;
 
 // The refusals of 02, Slip 1, with that of an unsound drive.
-#[derive(Drop)]
+#[derive(Clone, Copy)]
 pub enum Refusal {
     None,
     Unsound,
@@ -28,14 +28,14 @@ impl Refusal {
 }
 
 // After writing: how many bytes at the front of the buffer are the image, or a refusal.
-#[derive(Drop)]
+#[derive(Clone, Copy)]
 pub enum Written {
     Image { length: usize },
     Refused(Refusal),
 }
 
 // After reading: the drive. Beside a refusal stands one that every operation refuses.
-#[derive(Drop)]
+#[derive(Clone, Copy)]
 pub struct Loaded {
     pub refusal: Refusal,
     pub drive: Drive,

@@ -1,5 +1,7 @@
 // Reads an image from standard input, loads it, and writes the image of the drive that it gives to
 // standard output. What is not an image is refused on standard error, and nothing is written.
+#![tactic(auto)]
+
 use drive::Drive;
 use image::reading::read;
 use image::results::{Refusal, Written};

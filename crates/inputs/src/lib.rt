@@ -1,4 +1,6 @@
 // An inputs word: what it does to a drive, given the state and the cell that is present before it.
+#![tactic(auto)]
+
 ghost use Rattle.std.specs.Prelude.{◌≡◌, true, ◌≤◌};
 ghost use Rattle.instruction.specs.Numbers.{bit_of};
 ghost use Rattle.instruction.specs.Soundness.{cell_sound};

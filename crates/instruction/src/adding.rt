@@ -7,7 +7,7 @@ use crate::Instruction;
 use units::{Milliseconds, NetSteps, Steps};
 
 // The steps of a run and the milliseconds of a delay; or no totals are given of its code.
-#[derive(Drop)]
+#[derive(Clone, Copy)]
 pub enum Added {
     Counted {
         steps: NetSteps,

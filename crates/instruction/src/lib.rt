@@ -1,4 +1,6 @@
 // The instruction set: the 20 codes of 01, "Instructions", and a program cell.
+#![tactic(auto)]
+
 use frequency::Frequency;
 use units::{CellAddress, Milliseconds, Position, Steps};
 
@@ -11,15 +13,15 @@ pub mod text;
 pub mod ways;
 
 // An output that 58 sets: its place in O0 to O3, FC, F0 to F7.
-#[derive(Drop)]
+#[derive(Clone, Copy)]
 pub struct OutputName(pub u8);
 
 // What 63 tests: its place in I0 to I2, PX, S0 to S3, F0 to F7.
-#[derive(Drop)]
+#[derive(Clone, Copy)]
 pub struct ConditionName(pub u8);
 
 // The direction and the multiplier of a 05 in one byte, so that an instruction has 8.
-#[derive(Drop)]
+#[derive(Clone, Copy)]
 pub enum Travel {
     Forward,
     ForwardX4,
@@ -29,7 +31,7 @@ pub enum Travel {
 
 // The manual's instructions, small fields first. A run's frequency is in thousands of Hz for 01,
 // 02, 03 and 05, in hundreds for 31, 32, 11, 12 and the slow part of 03.
-#[derive(Drop)]
+#[derive(Clone, Copy)]
 pub enum Instruction {
     // 00
     Null,
@@ -138,7 +140,7 @@ pub enum Instruction {
 }
 
 // An instruction and the cell after it; 000 ends the program. A 69 has no next, held as 000.
-#[derive(Drop)]
+#[derive(Clone, Copy)]
 pub struct Cell {
     pub instruction: Instruction,
     pub next: CellAddress,

@@ -9,7 +9,7 @@ use frequency::Frequency;
 use units::Steps;
 
 // How an instruction moves the motor.
-#[derive(Drop)]
+#[derive(Clone, Copy)]
 pub enum Motion {
     // Not at all.
     NoRun,
@@ -23,7 +23,7 @@ pub enum Motion {
     DelayedStopRun,
 }
 
-#[derive(Drop)]
+#[derive(Clone, Copy)]
 pub struct Profile {
     pub motion: Motion,
     // Hz before the multiplier.

@@ -9,7 +9,7 @@ use fields::rows;
 use fields::rows::Row;
 
 // The cell that a string says, or that the string is wrong.
-#[derive(Drop)]
+#[derive(Clone, Copy)]
 pub enum Sent {
     Held(Cell),
     Wrong,

@@ -1,1 +1,2 @@
 // Definitions and laws that every layer shares. No code.
+#![tactic(auto)]

@@ -8,7 +8,7 @@ const CARRIAGE_RETURN: u8 = 13;
 
 // What was taken of a block: where to go on, how many bytes the string has then, and whether its
 // byte 13 is among them.
-#[derive(Drop)]
+#[derive(Clone, Copy)]
 pub struct Taken {
     pub next: usize,
     pub length: usize,

@@ -13,7 +13,7 @@ use encoding::head_of;
 use machine::Machine;
 
 // The drive after a list, and how many bytes were seen.
-#[derive(Drop)]
+#[derive(Clone, Copy)]
 pub struct Carried {
     pub machine: Machine,
     pub written: usize,

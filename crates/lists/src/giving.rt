@@ -27,7 +27,7 @@ use seen::orders::put_shown;
 use travel::travel;
 
 // The state after a word, and the place after what was seen of it.
-#[derive(Drop)]
+#[derive(Clone, Copy)]
 pub struct Given {
     pub state: State,
     pub written: usize,

@@ -1,6 +1,8 @@
 // A list of calls as bytes, carried out in one call: the drive is checked once, the words follow one
 // another, and what is seen of them is put behind each other in a lent buffer. docs/PROTOCOL.md has
 // the form of both.
+#![tactic(auto)]
+
 ghost use Rattle.std.specs.Prelude.{◌≡◌};
 ghost use Rattle.lists.specs.Performing.{performed, performed_as};
 
@@ -15,7 +17,7 @@ pub mod theorems;
 
 // How many bytes at the front of the buffer tell what is seen, and the next drive; or a refusal of
 // the whole list, and the drive as it came.
-#[derive(Drop)]
+#[derive(Clone, Copy)]
 pub struct Performed {
     pub refusal: Refusal,
     pub length: usize,

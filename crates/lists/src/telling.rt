@@ -17,7 +17,7 @@ use seen::numbers::put_byte;
 use units::Milliseconds;
 
 // The drive after a word, and the place after what was seen of it.
-#[derive(Drop)]
+#[derive(Clone, Copy)]
 pub struct Told {
     pub machine: Machine,
     pub written: usize,

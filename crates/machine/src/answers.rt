@@ -2,7 +2,7 @@
 use units::{Milliseconds, Steps};
 
 // 01: "always with IN, CU and FC".
-#[derive(Drop)]
+#[derive(Clone, Copy)]
 pub struct BoardSignals {
     pub current: u8,
     pub powered: bool,
@@ -10,7 +10,7 @@ pub struct BoardSignals {
 }
 
 // 01: "the order to the board".
-#[derive(Drop)]
+#[derive(Clone, Copy)]
 pub enum BoardOrder {
     Stand(BoardSignals),
     Slow(BoardSignals),
@@ -24,7 +24,7 @@ pub enum BoardOrder {
 }
 
 // How a wait ended.
-#[derive(Drop)]
+#[derive(Clone, Copy)]
 pub enum End {
     Idle,
     Moving,

@@ -9,7 +9,7 @@ use instruction::Cell;
 use units::{CellAddress, DriveAddress};
 
 // The address in a string: of one drive, or 99 for every drive. Not a drive's own address.
-#[derive(Drop)]
+#[derive(Clone, Copy)]
 pub struct StringAddress(pub u16);
 
 impl StringAddress {
@@ -17,7 +17,7 @@ impl StringAddress {
 }
 
 // The first four bytes of a string.
-#[derive(Drop)]
+#[derive(Clone, Copy)]
 pub struct Header {
     // Whether the first two are digits.
     pub digits: bool,
@@ -28,7 +28,7 @@ pub struct Header {
 }
 
 // A preset with a value.
-#[derive(Drop)]
+#[derive(Clone, Copy)]
 pub enum PresetValue {
     // AD
     Address(DriveAddress),
@@ -43,7 +43,7 @@ pub enum PresetValue {
 }
 
 // The commands and requests of 01, "Strings". Names stand as their place in their list.
-#[derive(Drop)]
+#[derive(Clone, Copy)]
 pub enum Command {
     // WN
     Store { at: CellAddress, cell: Cell },

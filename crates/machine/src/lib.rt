@@ -1,5 +1,7 @@
 // The record of one drive as plain data: small state apart from the 131 program cells. Exactly the fields that 01,
 // "What a drive holds", lists; none is hidden. The definitions of 01 over it are in specs/.
+#![tactic(auto)]
+
 use instruction::Cell;
 use units::{CellAddress, DriveAddress, Milliseconds, Position, Steps};
 
@@ -9,7 +11,7 @@ pub mod commands;
 pub mod theorems;
 
 // 01: "RS one of D0 to D3, B0 to B3".
-#[derive(Drop)]
+#[derive(Clone, Copy)]
 pub enum Resolution {
     D0,
     D1,
@@ -21,7 +23,7 @@ pub enum Resolution {
     B3,
 }
 
-#[derive(Drop)]
+#[derive(Clone, Copy)]
 pub struct Presets {
     // AD
     pub address: DriveAddress,
@@ -36,21 +38,21 @@ pub struct Presets {
 }
 
 // 01: "cam".
-#[derive(Drop)]
+#[derive(Clone, Copy)]
 pub struct Cam {
     pub set: bool,
     pub position: Position,
 }
 
 // 01: "error code and cell".
-#[derive(Drop)]
+#[derive(Clone, Copy)]
 pub struct Fault {
     pub code: u8,
     pub cell: CellAddress,
 }
 
 // 01's rest: nothing, steps or milliseconds, never one for the other. Nothing is its only zero.
-#[derive(Drop)]
+#[derive(Clone, Copy)]
 pub enum Remaining {
     Nothing,
     Counted(Steps),
@@ -58,7 +60,7 @@ pub enum Remaining {
 }
 
 // 01: "interrupted record (cell, rest, loop count)". Cell 000: empty.
-#[derive(Drop)]
+#[derive(Clone, Copy)]
 pub struct Suspended {
     pub cell: CellAddress,
     pub remaining: Remaining,
@@ -66,7 +68,7 @@ pub struct Suspended {
 }
 
 // 01: "Phases". The last five are a run under way.
-#[derive(Drop)]
+#[derive(Clone, Copy)]
 pub enum Phase {
     Waiting,
     Delay,
@@ -78,7 +80,7 @@ pub enum Phase {
 }
 
 // 01: "While busy also: present cell, phase, rest, loop count, at-speed mark." Cell 000: idle.
-#[derive(Drop)]
+#[derive(Clone, Copy)]
 pub struct Running {
     pub cell: CellAddress,
     pub phase: Phase,
@@ -87,7 +89,7 @@ pub struct Running {
     pub at_speed: bool,
 }
 
-#[derive(Drop)]
+#[derive(Clone, Copy)]
 pub struct State {
     pub presets: Presets,
     pub position: Position,
@@ -124,7 +126,7 @@ impl State {
 }
 
 // The whole record of a drive. Cell 100 stands at place 0.
-#[derive(Drop)]
+#[derive(Clone, Copy)]
 pub struct Machine {
     pub state: State,
     pub cells: [Cell; 131],

@@ -6,7 +6,7 @@ use lines::gathering::{front, gather};
 use units::{DriveAddress, Milliseconds};
 
 // What came of a line.
-#[derive(Drop)]
+#[derive(Clone, Copy)]
 pub enum Outcome {
     Nothing,
     // An answer of so many bytes, for a later line to look at.
@@ -18,7 +18,7 @@ pub enum Outcome {
 }
 
 // The drive after a line, and what came.
-#[derive(Drop)]
+#[derive(Clone, Copy)]
 pub struct Acted {
     pub drive: Drive,
     pub outcome: Outcome,

@@ -1,6 +1,8 @@
 // The examples of chapters 3, 4 and 5 of the maker's manual, run on the engine. The script on
 // standard input has them as data, and its head says how they are written. For each paragraph one
 // line says how many checks it passed, or which line of it failed and what came there.
+#![tactic(auto)]
+
 mod arguments;
 mod calls;
 mod reporting;
@@ -20,7 +22,7 @@ use units::DriveAddress;
 const LINE_FEED: u8 = 10;
 
 // Where the script stands.
-#[derive(Drop)]
+#[derive(Clone, Copy)]
 pub struct Bench {
     pub drive: Drive,
     pub score: Score,

@@ -1,6 +1,6 @@
 // How the script goes: what was seen last, and the checks that were passed.
 
-#[derive(Drop)]
+#[derive(Clone, Copy)]
 pub struct Score {
     // How many bytes there are of what was seen last.
     pub length: usize,

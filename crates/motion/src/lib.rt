@@ -1,5 +1,7 @@
 // A run under way: steps, at-speed and halted from the board, and the order that it is given. Each
 // function takes the state and what it needs of the present cell; none copies the memory.
+#![tactic(auto)]
+
 pub mod orders;
 pub mod reports;
 pub mod stepping;

@@ -3,7 +3,7 @@ ghost use Rattle.std.specs.Prelude.{◌≡◌};
 ghost use Rattle.observed.specs.Sums.{none, with_byte, with_all};
 
 // How many bytes there are, and the sum of each times its place, from 1 on, modulo 1000003.
-#[derive(Drop)]
+#[derive(Clone, Copy)]
 pub struct Sum {
     pub count: u32,
     pub sum: u32,

@@ -7,7 +7,7 @@ use machine::{Machine, State};
 use units::Milliseconds;
 
 // Why an operation was refused. 7, of frequency rounding, is frequency's own.
-#[derive(Drop)]
+#[derive(Clone, Copy)]
 pub enum Refusal {
     // Not refused.
     None,
@@ -46,7 +46,7 @@ impl Refusal {
 }
 
 // After an event: the next state, or a refusal and the state as it came.
-#[derive(Drop)]
+#[derive(Clone, Copy)]
 pub struct Acted {
     pub refusal: Refusal,
     pub state: State,
@@ -54,7 +54,7 @@ pub struct Acted {
 
 // After a string: how many bytes at the front of the buffer answer it, 0 for silence, and the next
 // record; or a refusal and the record as it came.
-#[derive(Drop)]
+#[derive(Clone, Copy)]
 pub struct Answered {
     pub refusal: Refusal,
     pub length: usize,
@@ -62,14 +62,14 @@ pub struct Answered {
 }
 
 // How a wait ended, and how many milliseconds it gave.
-#[derive(Drop)]
+#[derive(Clone, Copy)]
 pub enum Ending {
     NoWait,
     Ended { end: End, given: Milliseconds },
 }
 
 // After a wait: how it ended and the next state, or a refusal and the state as it came.
-#[derive(Drop)]
+#[derive(Clone, Copy)]
 pub struct Passed {
     pub refusal: Refusal,
     pub ending: Ending,

@@ -45,7 +45,7 @@ pub fn put_cells(buf: &mut [u8], from: usize, cells: [Cell; 131], n: usize) -> u
 }
 
 // A cell's code, and the place after its numbers; or that they are those of no cell.
-#[derive(Drop)]
+#[derive(Clone, Copy)]
 enum Coded {
     Numbers { code: u32, next: usize },
     Wrong,
@@ -75,7 +75,7 @@ fn read_numbers(s: &[u8], at: usize, values: &mut [u32; 6]) -> Coded
 }
 
 // A memory into which cells were read, and the place after them, or that they are wrong.
-#[derive(Drop)]
+#[derive(Clone, Copy)]
 pub struct Filled {
     pub next: Next,
     pub cells: [Cell; 131],

@@ -8,7 +8,7 @@ use varint::groups::Reading;
 use varint::{groups, signs};
 
 // The place after what was read, or that it is wrong.
-#[derive(Drop)]
+#[derive(Clone, Copy)]
 pub enum Next {
     At(usize),
     Wrong,

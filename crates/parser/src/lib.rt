@@ -1,4 +1,6 @@
 // What a string asks for: its code and its fields. The string stands here without its byte 13.
+#![tactic(auto)]
+
 ghost use Rattle.std.specs.Prelude.{◌≡◌, true};
 ghost use Rattle.machine.specs.Commands.{command_by, placed};
 

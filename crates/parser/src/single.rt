@@ -9,7 +9,7 @@ use machine::commands::Command;
 use units::CellAddress;
 
 // Commands and requests that have one field.
-#[derive(Drop)]
+#[derive(Clone, Copy)]
 pub enum Single {
     Start,
     SetPosition,

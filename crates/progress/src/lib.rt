@@ -1,4 +1,6 @@
 // How a program goes: starting it, going on to the next cell, ending it, and the phases of a run.
+#![tactic(auto)]
+
 ghost use Rattle.std.specs.Prelude.{◌≡◌};
 ghost use Rattle.machine.specs.Record.{at_rest, idle as idle_of, moving as moving_of, under_way};
 ghost use Rattle.machine.specs.Record.{stopped as stopped_of};

@@ -11,7 +11,7 @@ use instruction::{Cell, Instruction, numbers};
 use units::{CellAddress, Position};
 
 // A cell, and whether the record can hold it.
-#[derive(Drop)]
+#[derive(Clone, Copy)]
 pub struct Made {
     pub held: bool,
     pub cell: Cell,

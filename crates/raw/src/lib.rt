@@ -1,5 +1,7 @@
 // Raw writes: the record read as integers, one of them changed, and the record put together again.
 // So a script makes records that no call leads to. Integers are 64 bits in two's complement.
+#![tactic(auto)]
+
 ghost use Rattle.std.specs.Prelude.{◌≡◌};
 ghost use Rattle.raw.specs.Writes.{put_together, output_set, cell_set};
 ghost use Rattle.raw.specs.Writes.{field_written, output_written, cell_written};
@@ -15,7 +17,7 @@ mod remaining;
 mod states;
 
 // The record after a write. Where it cannot hold the value, whatever it holds is of no use.
-#[derive(Drop)]
+#[derive(Clone, Copy)]
 pub struct Written {
     pub held: bool,
     pub machine: Machine,

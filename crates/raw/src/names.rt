@@ -2,7 +2,7 @@
 ghost use Rattle.std.specs.Prelude.{◌≡◌};
 ghost use Rattle.raw.specs.Fields.{field_at};
 
-#[derive(Drop)]
+#[derive(Clone, Copy)]
 pub enum Field {
     Address,
     Current,

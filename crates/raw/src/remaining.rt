@@ -13,21 +13,21 @@ use machine::{Phase, Remaining, Running, State, Suspended};
 use units::{CellAddress, Milliseconds, Steps};
 
 // Both remaining counts of a state as integers, which get their units when it is put together.
-#[derive(Drop)]
+#[derive(Clone, Copy)]
 pub struct Counts {
     pub suspended: u64,
     pub running: u64,
 }
 
 // A state with both remaining counts in their units, and whether it can hold them.
-#[derive(Drop)]
+#[derive(Clone, Copy)]
 pub struct Counted {
     pub fits: bool,
     pub state: State,
 }
 
 // A remaining count in its unit, and whether a record can hold it.
-#[derive(Drop)]
+#[derive(Clone, Copy)]
 pub struct Count {
     pub fits: bool,
     pub remaining: Remaining,

@@ -12,7 +12,7 @@ use inputs::inputs_of;
 use machine::{Phase, Presets, Resolution, Running, State};
 
 // An integer as fields of each kind keep it.
-#[derive(Drop)]
+#[derive(Clone, Copy)]
 pub struct Kept {
     pub byte: u8,
     pub word: u16,

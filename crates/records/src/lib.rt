@@ -1,5 +1,7 @@
 // The record of a drive as text: the integers that raw writes change, in the order of their names,
 // parted by commas. What a line has no place for is cut.
+#![tactic(auto)]
+
 ghost use Rattle.std.specs.Prelude.{◌≡◌};
 ghost use Rattle.lines.specs.Gathering.{Gathered};
 ghost use Rattle.records.specs.Records.{signed_field, remaining_text, remaining_field};

@@ -3,7 +3,7 @@ use libc::STDIN_FILENO;
 use lines::gathering::{front, gather};
 
 // Where the input stands.
-#[derive(Drop)]
+#[derive(Clone, Copy)]
 pub struct Input {
     // What is left of the block: from a place on to another.
     pub at: usize,

@@ -1,6 +1,8 @@
 // Reads a script of calls from standard input, puts a drive through them, and writes one line of
 // observations for each call to standard output. A malformed line is named on standard error and
 // ends the run.
+#![tactic(auto)]
+
 mod complaints;
 mod input;
 mod performed;
@@ -25,7 +27,7 @@ const ROOM: usize = 4096;
 const LONGEST: usize = 8192;
 
 // What is to be done with a line.
-#[derive(Drop)]
+#[derive(Clone, Copy)]
 pub enum Verdict {
     PassOver,
     Refuse(Complaint),

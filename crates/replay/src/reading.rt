@@ -41,7 +41,7 @@ fn put_string(out: &mut [u8], address: u8, k: usize) -> usize {
 }
 
 // A reading under way: the refusal's number, and the sum of the answers.
-#[derive(Drop)]
+#[derive(Clone, Copy)]
 pub struct Asked {
     pub number: u8,
     pub sum: Sum,

@@ -1,4 +1,6 @@
 // The bytes that answer a string, in the lent buffer.
+#![tactic(auto)]
+
 ghost use Rattle.laws.specs.Writing.{Put};
 ghost use Rattle.machine.specs.Answers.{answer_at};
 ghost use Rattle.replies.specs.Pieces.{Answerable};

@@ -1,6 +1,6 @@
 // A call of a script, and what is wrong with a line that is none.
 
-#[derive(Drop)]
+#[derive(Clone, Copy)]
 pub enum Complaint {
     NotACall,
     MissingOrExtraWord,
@@ -15,7 +15,7 @@ pub enum Complaint {
 }
 
 // What may happen to a drive from outside.
-#[derive(Drop)]
+#[derive(Clone, Copy)]
 pub enum Event {
     Inputs(u32),
     Millisecond,
@@ -25,7 +25,7 @@ pub enum Event {
 }
 
 // What leaves the drive as it is.
-#[derive(Drop)]
+#[derive(Clone, Copy)]
 pub enum Look {
     Order,
     Rounding(u32),
@@ -37,7 +37,7 @@ pub enum Look {
 }
 
 // A raw write.
-#[derive(Drop)]
+#[derive(Clone, Copy)]
 pub enum Write {
     // By the field's place in the list of names.
     Field { place: usize, value: u64 },
@@ -46,7 +46,7 @@ pub enum Write {
     Cell { place: usize },
 }
 
-#[derive(Drop)]
+#[derive(Clone, Copy)]
 pub enum Call {
     Comment,
     Malformed(Complaint),

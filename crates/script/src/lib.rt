@@ -1,4 +1,6 @@
 // Scripts of calls: a line of text as a call.
+#![tactic(auto)]
+
 pub mod call;
 mod hex;
 mod names;

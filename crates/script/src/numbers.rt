@@ -5,7 +5,7 @@ ghost use Rattle.script.specs.Numbers.{unsigned_of, positive, negative, integer_
 use decimal::parse::Number;
 
 // A number with a sign, or that a word is none.
-#[derive(Drop)]
+#[derive(Clone, Copy)]
 pub enum Integer {
     Value(u64),
     Bad,

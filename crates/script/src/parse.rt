@@ -76,7 +76,7 @@ fn with_number(letter: u8, number: Number) -> Call
 }
 
 // A buffer to be lent, so many bytes of one value; or what is wrong with its two words.
-#[derive(Drop)]
+#[derive(Clone, Copy)]
 enum Buffer {
     Of { size: usize, fill: u8 },
     Wrong(Complaint),

@@ -7,7 +7,7 @@ use crate::numbers::{put_byte, put_number};
 use machine::answers::{BoardOrder, BoardSignals};
 
 // The parts of an order, each a number. Those that only a run has are 0 in the others.
-#[derive(Drop)]
+#[derive(Clone, Copy)]
 pub struct Parts {
     pub kind: u8,
     pub current: u8,

@@ -18,7 +18,7 @@ use machine::commands::{Command, Header};
 use machine::{Machine, State};
 
 // How many bytes answer, none where the string is silent, and the drive after it.
-#[derive(Drop)]
+#[derive(Clone, Copy)]
 pub struct Heard {
     pub length: usize,
     pub machine: Machine,

@@ -21,7 +21,7 @@ const MOST: usize = 65_536;
 const NO_REQUEST: u8 = 104;
 
 // How many bytes the answer has, and the drive after it.
-#[derive(Drop)]
+#[derive(Clone, Copy)]
 pub struct Answered {
     pub length: usize,
     pub drive: Drive,

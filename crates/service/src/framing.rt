@@ -5,7 +5,7 @@ use encoding::reading::number_at;
 
 // What came: a whole frame, one that is too long and was passed over, one that the input ended
 // within, or the end of the input.
-#[derive(Drop)]
+#[derive(Clone, Copy)]
 pub enum Arrival {
     End,
     CutShort,

@@ -1,4 +1,6 @@
 // Lists of calls, in frames, on two descriptors: docs/PROTOCOL.md, "Frames". One drive is held.
+#![tactic(auto)]
+
 ghost use Rattle.std.specs.Prelude.{◌≡◌, ◌<◌, length};
 
 use drive::Drive;
@@ -37,7 +39,7 @@ pub fn serve(input: i32, output: i32) {
 }
 
 // After a frame: the drive, and whether to go on.
-#[derive(Drop)]
+#[derive(Clone, Copy)]
 pub struct Turn {
     pub drive: Drive,
     pub going: bool,

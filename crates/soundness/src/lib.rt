@@ -1,5 +1,7 @@
 // Whether the whole record of a drive is sound, in one pass over its 131 cells. Every public call
 // asks this first, so no test leaves the pass early and each cell is read where it lies.
+#![tactic(auto)]
+
 ghost use Rattle.std.specs.Prelude.{◌≡◌};
 ghost use Rattle.machine.specs.Soundness.{sound as sound_of};
 ghost use Rattle.soundness.specs.Places.{place_of};

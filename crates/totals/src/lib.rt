@@ -1,5 +1,7 @@
 // Totals before a start, as 02, Slip 2, describes them: the net steps and the milliseconds of
 // delays of a program, from its start cell to 000. `along` is the operation.
+#![tactic(auto)]
+
 ghost use Rattle.std.specs.Prelude.{◌≡◌};
 ghost use Rattle.totals.specs.Walk.{totals_of};
 ghost use Rattle.totals.specs.Results.{totalled_as};

@@ -5,7 +5,7 @@ ghost use Rattle.totals.specs.Results.{number_of};
 use units::{Milliseconds, NetSteps};
 
 // The refusals of 02, Slip 2, with that of an unsound drive.
-#[derive(Drop)]
+#[derive(Clone, Copy)]
 pub enum Refusal {
     Unsound,
     NoCell,
@@ -28,13 +28,13 @@ impl Refusal {
 }
 
 // The net steps, and the milliseconds of delays.
-#[derive(Drop)]
+#[derive(Clone, Copy)]
 pub struct Sums {
     pub steps: NetSteps,
     pub delay: Milliseconds,
 }
 
-#[derive(Drop)]
+#[derive(Clone, Copy)]
 pub enum Totals {
     Given(Sums),
     Refused(Refusal),

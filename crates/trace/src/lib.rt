@@ -1,1 +1,3 @@
 // What a program makes that nothing interrupts: definitions and laws. No code.
+#![tactic(auto)]
+

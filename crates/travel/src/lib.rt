@@ -1,5 +1,7 @@
 // Steps of one run, many in one call: until so many are given, or one of them ends the run, leads to
 // another cell or changes an output.
+#![tactic(auto)]
+
 ghost use Rattle.std.specs.Prelude.{◌≡◌, true, List};
 ghost use Rattle.instruction.specs.declared.Cell.{Cell as CellOf};
 ghost use Rattle.machine.specs.Record.{moving as moving_of};
@@ -18,7 +20,7 @@ use units::Position;
 pub mod theorems;
 
 // How many steps were given, and the state after them.
-#[derive(Drop)]
+#[derive(Clone, Copy)]
 pub struct Travelled {
     pub given: u32,
     pub state: State,

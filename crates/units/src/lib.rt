@@ -1,5 +1,7 @@
 // The drive's numbers, each a type of its own, so that one is never taken for another: addresses,
 // steps, sums of steps, milliseconds and the position; and the arithmetic of runs on them.
+#![tactic(auto)]
+
 ghost use Rattle.std.specs.Prelude.{◌≡◌, ◌-◌};
 
 mod bits;
@@ -16,11 +18,11 @@ pub use shift::{is_beyond, steps_of};
 // taken for one another."
 
 // The address of a drive on its line.
-#[derive(Drop)]
+#[derive(Clone, Copy)]
 pub struct DriveAddress(pub u8);
 
 // The address of a cell of the program memory; as a next cell, 0 is the end.
-#[derive(Drop)]
+#[derive(Clone, Copy)]
 pub struct CellAddress(pub u8);
 
 impl CellAddress {
@@ -42,13 +44,13 @@ impl CellAddress {
 }
 
 // A count of steps, with the sign of its direction.
-#[derive(Drop)]
+#[derive(Clone, Copy)]
 pub struct Steps(pub i32);
 
 // A sum of steps of several runs, with its sign: more than 32 bits hold.
-#[derive(Drop)]
+#[derive(Clone, Copy)]
 pub struct NetSteps(pub i64);
 
 // A count of milliseconds.
-#[derive(Drop)]
+#[derive(Clone, Copy)]
 pub struct Milliseconds(pub u32);

@@ -5,7 +5,7 @@ ghost use Rattle.units.specs.Position.{number_of, stepped_of};
 use crate::bits::signed;
 
 // A number of steps from the origin: 32 bits in two's complement.
-#[derive(Drop)]
+#[derive(Clone, Copy)]
 pub struct Position(pub u32);
 
 impl Position {

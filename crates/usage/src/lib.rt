@@ -1,6 +1,8 @@
 // The map of used cells, beside a drive: 02, Slip 5. `count` makes it for a drive, fresh, loaded or
 // used; `string` is Drive::string, and brings the map up to date. Every other method of a drive
 // leaves the memory alone, and so the map right.
+#![tactic(auto)]
+
 ghost use Rattle.std.specs.Prelude.{◌≡◌, true, ◌<◌, length, get_or};
 ghost use Rattle.cellmap.specs.Marks.{is_marked};
 ghost use Rattle.machine.specs.Record.{null_cell};

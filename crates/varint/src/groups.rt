@@ -4,7 +4,7 @@ ghost use Rattle.laws.specs.Writing.{Put};
 ghost use Rattle.varint.specs.Groups.{groups, number_at};
 
 // A number and the place after it, or none: cut off, not in the shortest form, or too large.
-#[derive(Drop)]
+#[derive(Clone, Copy)]
 pub enum Reading {
     Found { value: u32, next: usize },
     Refused,

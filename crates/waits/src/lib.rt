@@ -1,5 +1,7 @@
 // Waiting: milliseconds until the drive is idle, moving or the budget is spent. Only a wait takes
 // the whole memory, once.
+#![tactic(auto)]
+
 ghost use Rattle.std.specs.Prelude.{◌-◌, ◌<◌, ◌≤◌, min, ◌≡◌, true, eqb, set};
 ghost use Rattle.laws.specs.Tests.{either};
 ghost use Rattle.machine.specs.Soundness.{sound};
@@ -16,7 +18,7 @@ use progress::{idle, moving};
 use units::Milliseconds;
 
 // Which end, how many milliseconds were given, and the state after that many.
-#[derive(Drop)]
+#[derive(Clone, Copy)]
 pub struct Ran {
     pub end: End,
     pub given: Milliseconds,
