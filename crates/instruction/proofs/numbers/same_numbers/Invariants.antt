@@ -1,0 +1,18 @@
+-- `numbers::same_numbers` meets its contract. Invariant: what is found so far, joined to what the numbers left say, is the whole.
+-- Measure: the numbers left. Assumes nothing.
+use Prim.Native.Nat.{◌-◌, ◌≤◌, ◌<◌}
+use native.Mathlib.Omega.{arith}
+use mathlib.Core.Path.{◌≡◌, sym, ◌∙◌}
+use lib.ListN.{length, drop}
+use borrow.Author.Rules.{rules}
+use Rattle.laws.specs.Tests.{both}
+use Rattle.laws.proofs.Joins.{both-start}
+use Rattle.instruction.specs.Numbers.{same_numbers}
+use Rattle.instruction.proofs.Numbering.{same_turn, same_end}
+use Rattle.instruction.proofs.numbers.same_numbers.Given as goal
+
+abbrev pub invariant-loop-i : goal.invariant-loop-i
+invariant-loop-i l = (l.i ≤ 6) × (both l.same (same_numbers (drop l.i l.xs) (drop l.i l.ys)) ≡ same_numbers l.xs l.ys)
+
+abbrev pub decreases-loop-i : goal.decreases-loop-i
+decreases-loop-i l = 6 - l.i

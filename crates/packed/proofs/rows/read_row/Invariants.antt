@@ -1,0 +1,19 @@
+-- Invariant: the numbers left, read from the place reached and stored after the values so far, give the whole result. Measure: the numbers left.
+-- Assumes nothing.
+use Prim.Native.Nat.{◌-◌}
+use native.Mathlib.Omega.{arith}
+use mathlib.Core.Path.{◌≡◌, ◌∙◌, refl, sym}
+use mathlib.Core.Logic.{⊎_elim}
+use lib.ListN.{length, length-set}
+use borrow.Author.Rules.{rules}
+use Rattle.varint.specs.Signs.{unfolded}
+use Rattle.packed.specs.Layout.{laid_read_from, laid_read, parsed_as}
+use Rattle.packed.proofs.Turns.{turned, plain, read-start, read-refused, read_next, read-end}
+use Rattle.packed.proofs.rows.read_row.Given as goal
+
+abbrev pub invariant-loop-i : goal.invariant-loop-i
+invariant-loop-i l =
+    (length l.values ≡ 6) × (laid_read l.count l.signed l.s l.from ≡ laid_read_from (l.count - l.i) l.signed l.s l.at l.i l.values)
+
+abbrev pub decreases-loop-i : goal.decreases-loop-i
+decreases-loop-i l = l.count - l.i
