@@ -5,9 +5,9 @@ ghost use Rattle.machine.specs.Calls.{act};
 ghost use Rattle.machine.specs.Calls.Call.{SendString, SetInputs};
 ghost use Rattle.operations.specs.Results.{acted_on, Answering};
 
-use crate::events;
 use crate::parts::present_cell;
 use crate::results::{Acted, Answered, Refusal};
+use inputs::input_word;
 use machine::Machine;
 use serial::telling::tell;
 
@@ -38,6 +38,16 @@ pub fn inputs(machine: Machine, word: u16) -> Acted
     requires { sound machine ≡ true }
     ensures { acted_on machine result ≡ act (SetInputs word) machine }
 {
+    let now = machine.state;
+    if 2047 < word {
+        return Acted {
+            refusal: Refusal::WordAbove2047,
+            state: now,
+        };
+    }
     let cell = present_cell(machine);
-    events::inputs(word, machine.state, cell)
+    Acted {
+        refusal: Refusal::None,
+        state: input_word(word, now, cell),
+    }
 }

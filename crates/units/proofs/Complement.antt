@@ -16,7 +16,7 @@ steps-bits n s = rw (to_z-of_z s)
 
 -- a number of 32 bits in 64
 pub to_z-of_z-wide : {z : ℤ} → SFits w32 z → to_z w64 (of_z w64 z) ≡ z
-to_z-of_z-wide s = to_z-of_z (sfits_widen tt s)
+to_z-of_z-wide s = to_z-of_z {w = w64} (sfits_widen (tt {0}) s)
 
 -- the bits of a number of 32 bits, as a number of 64
 pub sfits-bits : {z : ℤ} → SFits w32 z → SFits w64 (pos (of_z w32 z))

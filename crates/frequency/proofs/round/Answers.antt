@@ -28,3 +28,6 @@ returns c =
     let e : hertz_of c.place-frequency.result ≡ round_of v =
     ap hertz_of c.place-frequency.ensures ∙ hertz-place v (omega arith) (omega arith) in
     simp (ne_eqb _ _ c.if-value-eq0.false, le-ltb _ _ c.if-value-gt4800.false) (ap Value e)
+
+pub bounds-table-frequency : goal.bounds-table-frequency
+bounds-table-frequency c = rw c.place-frequency.ensures (place-below c.args.value (omega arith) (omega arith))
