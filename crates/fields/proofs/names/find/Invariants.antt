@@ -2,12 +2,9 @@
 -- Invariant: the place in the names left, counted on from the turns made, is the place in the whole list. Measure: the names left.
 -- Assumes nothing.
 use Prim.Native.Nat.{◌-◌, ◌≤◌}
-use native.Mathlib.Omega.{arith}
-use mathlib.Core.Path.{◌≡◌, ◌∙◌, refl, sym}
+use mathlib.Core.Path.{◌≡◌}
 use lib.ListN.{length, drop}
 use Rattle.fields.specs.Names.{list_of, place_from}
-use Rattle.fields.proofs.Turns.{length-list_of, place_here, place-next, place_end}
-use borrow.Author.Rules.{rules}
 use Rattle.fields.proofs.names.find.Given as goal
 
 abbrev pub invariant-loop-i : goal.invariant-loop-i

@@ -2,11 +2,9 @@
 -- Invariant: the place, and what is left before the next comma, come to the end of the field. Measure: the bytes left.
 -- Assumes nothing.
 use Prim.Native.Nat.{◌+◌, ◌-◌, ◌≤◌}
-use native.Mathlib.Omega.{arith}
-use mathlib.Core.Path.{◌≡◌, refl}
+use mathlib.Core.Path.{◌≡◌}
 use lib.ListN.{length, drop}
 use Rattle.fields.specs.Reader.{field_length}
-use Rattle.fields.proofs.Reading.{field_length-here, field_length-step, field_length-end}
 use Rattle.fields.proofs.reader.field_end.Given as goal
 
 abbrev pub invariant-loop-i : goal.invariant-loop-i
