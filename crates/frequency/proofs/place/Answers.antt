@@ -2,7 +2,6 @@
 -- Assumes nothing.
 use native.Mathlib.Omega.{arith}
 use mathlib.Core.Path.{sym}
-use borrow.Author.Rules.{rules}
 use Rattle.frequency.proofs.Placing.{place-first, place-low, place-high, place-last}
 use Rattle.frequency.proofs.place.Goals as goal
 

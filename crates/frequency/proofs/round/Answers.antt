@@ -2,10 +2,8 @@
 -- Assumes nothing.
 use native.Mathlib.Omega.{arith}
 use mathlib.Core.Path.{◌≡◌, ap, ◌∙◌}
-use borrow.Author.Rules.{rules}
 use borrow.Author.Tests.{eq-eqb, ne_eqb, lt-ltb, le-ltb}
 use Rattle.laws.specs.Tests.{choose}
-use Rattle.frequency.specs.declared.Frequency.{Frequency}
 use Rattle.frequency.specs.declared.Rounded.TheVariants.{Value}
 use Rattle.frequency.specs.Table.{frequencies, rising, following}
 use Rattle.frequency.specs.Places.{hertz_of}

@@ -1,7 +1,6 @@
 -- Minus a number: 2 ^ 32 less the number, and 0 for 0.
 -- Assumes nothing.
 use mathlib.Core.Path.{ap, sym}
-use borrow.Author.Rules.{rules}
 use Rattle.decimal.specs.Parsing.{negated}
 use Rattle.decimal.proofs.parse.negate.Goals as goal
 

@@ -1,6 +1,5 @@
 -- The length is compared with the width, then the number is read.
 -- Assumes nothing.
-use borrow.Author.Rules.{rules}
 use borrow.Author.Tests.{eq-eqb, ne_eqb}
 use Rattle.laws.specs.Tests.{choose}
 use Rattle.decimal.specs.Parsing.{fixed_of}

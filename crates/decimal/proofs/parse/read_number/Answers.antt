@@ -1,6 +1,5 @@
 -- The length is tested, then the digits are read.
 -- Assumes nothing.
-use borrow.Author.Rules.{rules}
 use borrow.Author.Tests.{le-leb, lt-leb}
 use Rattle.laws.specs.Tests.{choose}
 use Rattle.decimal.specs.Parsing.{number_of}

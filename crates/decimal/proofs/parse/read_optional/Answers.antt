@@ -3,7 +3,6 @@
 use native.Mathlib.Omega.{arith}
 use mathlib.Core.Path.{◌∙◌, ap, sym}
 use mathlib.Core.Logic.{inl, inr}
-use borrow.Author.Rules.{rules}
 use Rattle.decimal.specs.Parsing.{within}
 use Rattle.decimal.proofs.Turns.{optional_of-empty, optional_of-sign, optional_of-other}
 use Rattle.decimal.proofs.parse.read_optional.Goals as goal

@@ -2,7 +2,6 @@
 -- Assumes nothing.
 use native.Mathlib.Omega.{arith}
 use mathlib.Core.Path.{◌∙◌, ap, sym}
-use borrow.Author.Rules.{rules}
 use Rattle.decimal.specs.Parsing.{number_of, within, negated}
 use Rattle.decimal.proofs.Turns.{signed_of-empty, signed_of-plus, signed_of-minus, signed_of-other, tail_all}
 use Rattle.decimal.proofs.parse.read_signed.Goals as goal

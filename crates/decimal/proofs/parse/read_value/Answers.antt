@@ -1,13 +1,12 @@
 -- Invariant: the value so far, continued over the bytes left, is the value of the field; it is below the power of the place. Measure: the bytes left.
 -- Assumes nothing.
-use Prim.Native.Nat.{◌-◌, ◌≤◌, ◌<◌, ◌^◌}
+use Prim.Native.Nat.{◌-◌, ◌^◌}
 use native.Mathlib.Omega.{arith}
-use mathlib.Core.Path.{◌≡◌, ◌∙◌, refl, sym}
-use lib.ListN.{length, get_or, drop}
+use mathlib.Core.Path.{◌∙◌, sym}
+use lib.ListN.{get_or}
 use borrow.Author.Tests.{lt-ltb, le-ltb}
 use Rattle.laws.proofs.Tests.{choose-true, choose-false}
-use Rattle.decimal.specs.Parsing.{value_from}
-use Rattle.decimal.proofs.Turns.{value-below, value-small, value_low, value-high, value-next, value-end}
+use Rattle.decimal.proofs.Turns.{value-below, value_low, value-high, value-next, value-end}
 use Rattle.decimal.proofs.parse.read_value.Goals as goal
 
 pub returns-then-b-lt48 : goal.returns-then-b-lt48

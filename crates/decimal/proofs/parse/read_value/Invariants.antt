@@ -1,13 +1,9 @@
 -- Invariant: the value so far, continued over the bytes left, is the value of the field; it is below the power of the place. Measure: the bytes left.
 -- Assumes nothing.
 use Prim.Native.Nat.{◌-◌, ◌≤◌, ◌<◌, ◌^◌}
-use native.Mathlib.Omega.{arith}
-use mathlib.Core.Path.{◌≡◌, ◌∙◌, refl, sym}
-use lib.ListN.{length, get_or, drop}
-use borrow.Author.Tests.{lt-ltb, le-ltb}
-use Rattle.laws.proofs.Tests.{choose-true, choose-false}
+use mathlib.Core.Path.{◌≡◌}
+use lib.ListN.{length, drop}
 use Rattle.decimal.specs.Parsing.{value_from}
-use Rattle.decimal.proofs.Turns.{value-below, value-small, value_low, value-high, value-next, value-end}
 use Rattle.decimal.proofs.parse.read_value.Given as goal
 
 abbrev pub invariant-loop-i : goal.invariant-loop-i

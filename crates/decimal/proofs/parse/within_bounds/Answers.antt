@@ -1,6 +1,5 @@
 -- A number is compared with each bound.
 -- Assumes nothing.
-use borrow.Author.Rules.{rules}
 use borrow.Author.Tests.{le-leb, lt-leb}
 use Rattle.laws.specs.Tests.{choose}
 use Rattle.decimal.specs.Parsing.{within}

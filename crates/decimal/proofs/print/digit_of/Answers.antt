@@ -3,7 +3,6 @@
 use Prim.Native.Nat.{ℕ, ◌+◌, ◌*◌, ◌<◌}
 use native.Mathlib.Omega.{arith}
 use mathlib.Core.Path.{◌≡◌}
-use borrow.Author.Rules.{rules}
 use Rattle.decimal.specs.Printing.{taken_away}
 use Rattle.decimal.specs.declared.print.Digit.{Digit}
 use Rattle.decimal.proofs.Taking.{Counted, counted_none, counted-taken, counted-split}

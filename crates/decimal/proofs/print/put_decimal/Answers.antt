@@ -3,7 +3,6 @@
 use Prim.Native.Nat.{ℕ}
 use native.Mathlib.Omega.{arith}
 use mathlib.Core.Path.{ap}
-use borrow.Author.Rules.{rules}
 use Rattle.laws.proofs.Writing.{put_as}
 use Rattle.decimal.specs.Printing.{digits, decimal}
 use Rattle.decimal.proofs.Printing.{width-holds, width_small, length-decimal}

@@ -1,11 +1,11 @@
 -- Invariant: the digits left, written from the present place on, give what all digits give; what is left is below the power of its width.
 -- Measure: the digits left. The last digit is what is left.
 -- Assumes nothing.
-use Prim.Native.Nat.{ℕ, ◌+◌, ◌-◌, ◌≤◌, ◌<◌, ◌^◌}
+use Prim.Native.Nat.{ℕ, ◌-◌, ◌≤◌, ◌<◌, ◌^◌}
 use native.Mathlib.Nat.{mod-lt, le_trans, pow-le-pow_right}
 use native.Mathlib.Omega.{arith}
-use mathlib.Core.Path.{◌≡◌, ◌∙◌, ap, refl, sym}
-use lib.ListN.{length, get_or, length-set}
+use mathlib.Core.Path.{◌≡◌, ◌∙◌, ap, sym}
+use lib.ListN.{get_or, length-set}
 use lib.Seq.{sets}
 use lib.Dec.{lit<}
 use Rattle.decimal.specs.Printing.{digits}

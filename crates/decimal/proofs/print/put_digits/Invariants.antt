@@ -1,17 +1,11 @@
 -- Invariant: the digits left, written from the present place on, give what all digits give; what is left is below the power of its width.
 -- Measure: the digits left. The last digit is what is left.
 -- Assumes nothing.
-use Prim.Native.Nat.{ℕ, ◌+◌, ◌-◌, ◌≤◌, ◌<◌, ◌^◌}
-use native.Mathlib.Nat.{mod-lt, le_trans, pow-le-pow_right}
-use native.Mathlib.Omega.{arith}
-use mathlib.Core.Path.{◌≡◌, ◌∙◌, ap, refl, sym}
-use lib.ListN.{length, get_or, length-set}
+use Prim.Native.Nat.{◌+◌, ◌≤◌, ◌<◌, ◌^◌}
+use mathlib.Core.Path.{◌≡◌}
+use lib.ListN.{length}
 use lib.Seq.{sets}
-use lib.Dec.{lit<}
 use Rattle.decimal.specs.Printing.{digits}
-use Rattle.decimal.proofs.Printing.{length_digits}
-use Rattle.decimal.proofs.Powers.{powers, power_at}
-use Rattle.decimal.proofs.Turns.{left_below, sets-digits, sets_last}
 use Rattle.decimal.proofs.print.put_digits.Given as goal
 
 abbrev pub invariant-loop-k : goal.invariant-loop-k

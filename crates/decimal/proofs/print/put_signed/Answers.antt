@@ -1,9 +1,8 @@
 -- The sign, and the magnitude after it: one case for each sign.
 -- Assumes nothing.
 use native.Mathlib.Omega.{arith}
-use mathlib.Core.Path.{◌∙◌, ap, sym}
+use mathlib.Core.Path.{ap, sym}
 use lib.ListN.{length, length-set}
-use borrow.Author.Rules.{rules}
 use Rattle.laws.proofs.Writing.{put_byte, put-append, put_as}
 use Rattle.decimal.proofs.Printing.{signed-plus, signed-minus}
 use Rattle.decimal.proofs.print.put_signed.Goals as goal

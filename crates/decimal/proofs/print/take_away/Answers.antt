@@ -1,6 +1,5 @@
 -- Both cases of the test.
 -- Assumes nothing.
-use borrow.Author.Rules.{rules}
 use borrow.Author.Tests.{lt-ltb, le-ltb}
 use Rattle.laws.specs.Tests.{choose}
 use Rattle.decimal.specs.Printing.{taken_away}

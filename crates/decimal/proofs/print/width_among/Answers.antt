@@ -4,7 +4,6 @@ use Prim.Native.Nat.{ℕ, suc, ◌+◌, ◌≤◌, ◌<◌}
 use native.Mathlib.Omega.{arith}
 use mathlib.Core.Path.{◌≡◌, ◌∙◌, refl, sym}
 use lib.ListN.{get_or}
-use borrow.Author.Rules.{rules}
 use Rattle.decimal.specs.Printing.{width_from}
 use Rattle.decimal.proofs.Powers.{powers, power_at}
 use Rattle.decimal.proofs.Turns.{width-here, width-past}

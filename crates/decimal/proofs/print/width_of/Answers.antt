@@ -1,7 +1,6 @@
 -- A number below 10 ^ 5 has one of the first five widths, any other one of the last five.
 -- Assumes nothing.
 use mathlib.Core.Path.{◌∙◌, refl, sym}
-use borrow.Author.Rules.{rules}
 use Rattle.decimal.specs.Printing.{width}
 use Rattle.decimal.proofs.Turns.{width-past, width-within}
 use Rattle.decimal.proofs.print.width_of.Goals as goal

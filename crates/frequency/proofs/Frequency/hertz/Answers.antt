@@ -1,9 +1,7 @@
 -- `Frequency::hertz` meets its contract: the formula gives what stands in the table.
 -- Assumes nothing.
 use mathlib.Core.Path.{sym}
-use native.Mathlib.Omega.{arith}
-use borrow.Author.Rules.{rules}
-use Rattle.frequency.proofs.Placing.{hertz-low, hertz-high, hertz-past, hertz-range}
+use Rattle.frequency.proofs.Placing.{hertz-low, hertz-high, hertz-past}
 use Rattle.frequency.proofs.Frequency.hertz.Goals as goal
 
 pub returns-then-k-lt309 : goal.returns-then-k-lt309

@@ -2,7 +2,6 @@
 -- Assumes nothing.
 use Rattle.std.proofs.Common.{true, sym, to_z-of_z, w32, SFits, rules}
 use lib.IntN.{one, *ℤ-one}
-use mir.Facts.{sfits_widen}
 use Rattle.units.specs.Shift.{scaled_of, multiplier_of}
 use Rattle.laws.specs.Tests.{choose}
 use Rattle.units.proofs.Complement.{to_z-of_z-wide}

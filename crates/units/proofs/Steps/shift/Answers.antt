@@ -1,7 +1,7 @@
 -- `Steps::shift` meets its contract: no difference of an i32 and a position overflows.
 -- Assumes nothing.
 use Rattle.std.proofs.Common.{to_z-of_z, w32, Fits, SFits, rules}
-use mir.Facts.{sfits_to_z, sfits_widen}
+use mir.Facts.{sfits_to_z}
 use Rattle.laws.specs.Tests.{choose}
 use Rattle.units.specs.Shift.{shift_of}
 use Rattle.units.proofs.Complement.{to_z-of_z-wide}

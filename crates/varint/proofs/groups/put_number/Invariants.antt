@@ -1,13 +1,10 @@
 -- Invariant: the groups left, written from the present place on, give what all groups give; what is left fits them. Measure: the turns left.
 -- Assumes nothing.
-use Prim.Native.Nat.{ℕ, ◌+◌, ◌-◌, ◌*◌, ◌/◌, ◌%◌, ◌^◌, ◌≤◌, ◌<◌}
-use native.Mathlib.Numerals.{add-one}
-use native.Mathlib.Omega.{arith}
-use mathlib.Core.Path.{◌≡◌, ◌∙◌, ap, refl, sym}
-use lib.ListN.{length, set, length-set}
+use Prim.Native.Nat.{◌+◌, ◌*◌, ◌^◌, ◌≤◌, ◌<◌}
+use mathlib.Core.Path.{◌≡◌}
+use lib.ListN.{length}
 use lib.Seq.{sets}
 use Rattle.varint.specs.Groups.{groups_from, groups}
-use Rattle.varint.proofs.Turns.{groups-last, groups-next, groups-end, left_below, left-last}
 use Rattle.varint.proofs.groups.put_number.Given as goal
 
 abbrev pub invariant-loop-k : goal.invariant-loop-k

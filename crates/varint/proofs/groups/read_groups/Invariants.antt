@@ -1,15 +1,11 @@
 -- Invariant: what is read from the present place on, behind the groups so far, is the whole result; the value is below the weight of the next group.
 -- Measure: the turns left.
 -- Assumes nothing.
-use Prim.Native.Nat.{ℕ, ◌+◌, ◌-◌, ◌*◌, ◌^◌, ◌≤◌, ◌<◌}
-use native.Mathlib.Nat.{pow-suc}
-use native.Mathlib.Numerals.{add-one}
-use native.Mathlib.Omega.{arith}
-use mathlib.Core.Path.{◌≡◌, ◌∙◌, ap, refl, sym}
-use lib.ListN.{get_or, drop}
+use Prim.Native.Nat.{◌-◌, ◌^◌, ◌≤◌, ◌<◌}
+use mathlib.Core.Path.{◌≡◌}
+use lib.ListN.{drop}
 use Rattle.varint.specs.Groups.{read_from, bounded, number_at}
-use Rattle.varint.specs.declared.groups.Reading.{Reading}
-use Rattle.varint.proofs.Turns.{after, after-start, read-cut, end_low, end-wide, end-found, turn, value-below, weight-small}
+use Rattle.varint.proofs.Turns.{after}
 use Rattle.varint.proofs.groups.read_groups.Given as goal
 
 abbrev pub invariant-loop-k : goal.invariant-loop-k

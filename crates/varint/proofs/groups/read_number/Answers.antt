@@ -2,7 +2,6 @@
 -- Assumes nothing.
 use native.Mathlib.Omega.{arith}
 use mathlib.Core.Path.{sym}
-use borrow.Author.Rules.{rules}
 use Rattle.varint.proofs.Turns.{number_cut, number-one}
 use Rattle.varint.proofs.groups.read_number.Goals as goal
 

@@ -3,7 +3,6 @@
 use native.Mathlib.Omega.{arith}
 use mathlib.Core.Path.{◌∙◌, sym}
 use Rattle.varint.proofs.Folding.{folded-plus, folded-minus}
-use borrow.Author.Rules.{rules}
 use Rattle.varint.proofs.signs.fold_sign.Goals as goal
 
 pub returns-then-bits-lt2147483648 : goal.returns-then-bits-lt2147483648

@@ -2,7 +2,6 @@
 -- Assumes nothing.
 use mathlib.Core.Path.{sym}
 use Rattle.varint.proofs.Folding.{unfolded-even, unfolded-odd}
-use borrow.Author.Rules.{rules}
 use Rattle.varint.proofs.signs.unfold_sign.Goals as goal
 
 pub returns-then-n-eq0 : goal.returns-then-n-eq0
