@@ -146,6 +146,7 @@ fn of6(k0: Kind, k1: Kind, k2: Kind, k3: Kind, k4: Kind, k5: Kind) -> Format
 }
 
 // The format of a code.
+#[tactic(auto, unfolding(crate::specs::Formats::format_of, crate::specs::Formats::fields_of, crate::specs::Formats::fields_in, crate::specs::Formats::known, crate::specs::Formats::known_in, laws::specs::Tests::choose, laws::specs::Tests::either))]
 pub fn format_of(code: u32) -> Format
     ensures { result ≡ format_of code }
 {
@@ -200,6 +201,7 @@ fn no_fields(known: bool) -> Format
 
 // How many fields a code has; 7 where there is no such code. Of a row it says no more, so that a
 // whole memory is written and read without building its rows.
+#[tactic(auto, unfolding(crate::specs::Formats::field_count, crate::specs::Formats::fields_of, crate::specs::Formats::fields_in, crate::specs::Formats::known, crate::specs::Formats::known_in, laws::specs::Tests::choose, laws::specs::Tests::either))]
 pub fn field_count(code: u32) -> usize
     ensures { result ≡ field_count code }
 {
@@ -229,6 +231,7 @@ pub fn field_count(code: u32) -> usize
 }
 
 // The place of the field with a sign; 6 where a code has none.
+#[tactic(auto, unfolding(crate::specs::Formats::signed_place, crate::specs::Formats::signed_from, crate::specs::Formats::fields_of, crate::specs::Formats::fields_in, laws::specs::Tests::choose, fields::specs::Kinds::is_signed))]
 pub fn signed_place(code: u32) -> usize
     ensures { result ≡ signed_place (fields_of code) }
 {
