@@ -98,6 +98,7 @@ pub fn preset_kind(preset: u32) -> Kind
 }
 
 // The value of RS at a place of its list.
+#[tactic(auto, unfolding(crate::specs::Commands::resolution_at, laws::specs::Tests::choose))]
 pub fn resolution_at(place: u32) -> Resolution
     ensures { result ≡ resolution_at place }
 {
