@@ -15,7 +15,7 @@ abbrev pub invariant-loop-i : goal.invariant-loop-i
 invariant-loop-i l =
     (length l.buf ≡ length l.initial.buf)
     × ((l.at + length (cells_bytes (take (l.n - l.i) (drop l.i l.cells))) ≤ length l.initial.buf)
-    × ((l : List ℕ) (e : ℕ) → Put l.buf l (cells_bytes (take (l.n - l.i) (drop l.i l.cells))) l.at e → Put l.initial.buf l (cells_bytes (take l.n l.cells)) l.from e))
+    × ((b : List ℕ) (e : ℕ) → Put l.buf b (cells_bytes (take (l.n - l.i) (drop l.i l.cells))) l.at e → Put l.initial.buf b (cells_bytes (take l.n l.cells)) l.from e))
 
 abbrev pub decreases-loop-i : goal.decreases-loop-i
 decreases-loop-i l = l.n - l.i

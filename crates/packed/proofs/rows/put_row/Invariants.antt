@@ -18,7 +18,7 @@ abbrev pub invariant-loop-i : goal.invariant-loop-i
 invariant-loop-i l =
     (length l.buf ≡ length l.initial.buf)
     × ((l.at + length (laid_from (l.count - l.i) l.signed l.i l.values) ≤ length l.initial.buf)
-    × ((l : List ℕ) (e : ℕ) → Put l.buf l (laid_from (l.count - l.i) l.signed l.i l.values) l.at e → Put l.initial.buf l (laid l.count l.signed l.values) l.from e))
+    × ((b : List ℕ) (e : ℕ) → Put l.buf b (laid_from (l.count - l.i) l.signed l.i l.values) l.at e → Put l.initial.buf b (laid l.count l.signed l.values) l.from e))
 
 abbrev pub decreases-loop-i : goal.decreases-loop-i
 decreases-loop-i l = l.count - l.i
