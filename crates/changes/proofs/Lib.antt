@@ -1,6 +1,5 @@
 -- Cells: what a sound cell says of the numbers that taking it uses. Levels: levels that are compared. Changing: the change that a cell or a
--- millisecond makes is what `machine` defines. Told: what the last arm of a `match` knows.
+-- millisecond makes is what `machine` defines.
 mod Cells
 mod Levels
 pub mod Changing
-mod Told

@@ -142,6 +142,7 @@ fn closing_loop(loops: u16, jump: CellAddress, next: CellAddress) -> Change
 }
 
 // The level of an input or a flag that a 63 names.
+#[tactic(auto, unfolding(machine::specs::Taking::level_at, laws::specs::Tests::choose))]
 fn condition_at<'a>(inputs: &'a [bool; 11], outputs: &'a [bool; 14], place: u8) -> bool
     requires { place < 16 }
     ensures { result ≡ level_at inputs.now outputs.now place }
@@ -175,6 +176,7 @@ fn time_delay(delay: Milliseconds, loops: u16, next: CellAddress) -> Change
 }
 
 // What taking a cell changes, given the loop count and the levels that a 63 looks at.
+#[tactic(auto, unfolding(crate::specs::Changes::change_of))]
 fn change_of<'a>(cell: Cell, loops: u16, inputs: &'a [bool; 11], outputs: &'a [bool; 14]) -> Change
     requires { cell_sound cell ≡ true }
     ensures { result ≡
@@ -227,6 +229,7 @@ fn delay_change(remaining: Remaining, at_speed: bool, loops: u16, next: CellAddr
 
 // What the next millisecond of a busy drive changes, given its running part and its levels. They
 // are lent, since a state handed on by value would be copied to look one level up.
+#[tactic(auto, unfolding(crate::specs::Changes::change_in))]
 pub fn change_at<'a>(
     running: Running,
     inputs: &'a [bool; 11],
