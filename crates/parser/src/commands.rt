@@ -48,6 +48,7 @@ pub fn preset_in(s: &[u8]) -> Command
 }
 
 // The preset at a place of AD, IN, RS, ES, CM, with a value of its kind.
+#[tactic(auto, unfolding(machine::specs::Commands::preset_with, laws::specs::Tests::choose))]
 fn preset_with(preset: u32, value: u32) -> PresetValue
     ensures { result ≡ preset_with preset value }
 {
