@@ -10,6 +10,7 @@ use cellmap::CellMap;
 use instruction::Cell;
 
 // A place that is a cell's and has no mark is marked and put into the order; how many it has then.
+#[tactic(auto, unfolding(crate::specs::Search::is_new, laws::specs::Tests::choose, laws::specs::Tests::both))]
 fn find(used: &mut CellMap, order: &mut [u8; 131], n: usize, k: usize) -> usize
     requires { (length used.old ≡ 131) × (n + unmarked used.old ≤ 131) }
     ensures value { result ≡ count_with used.old n k }

@@ -9,6 +9,7 @@ use units::CellAddress;
 pub const PLACES: usize = 131;
 
 // The place of a cell; of 000, which is no cell, 131.
+#[tactic(auto, unfolding(crate::specs::Graph::place_of, laws::specs::Tests::choose))]
 pub fn place_of(address: CellAddress) -> usize
     ensures { result ≡ place_of address }
 {
@@ -20,6 +21,7 @@ pub fn place_of(address: CellAddress) -> usize
 }
 
 // Where its next leads.
+#[tactic(auto, unfolding(crate::specs::Graph::next_place))]
 pub fn next_place(cell: Cell) -> usize
     ensures { result ≡ next_place cell }
 {
@@ -27,6 +29,7 @@ pub fn next_place(cell: Cell) -> usize
 }
 
 // Where its jump leads; of a cell that has none, its next again.
+#[tactic(auto, unfolding(crate::specs::Graph::jump_place))]
 pub fn jump_place(cell: Cell) -> usize
     ensures { result ≡ jump_place cell }
 {

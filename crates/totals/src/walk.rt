@@ -70,6 +70,7 @@ fn follow(
 }
 
 // The totals by the number and the sums of a walk.
+#[tactic(auto, unfolding(crate::specs::Table::walked_as, laws::specs::Tests::choose))]
 fn totalled(number: u8, net: i64, waits: u32) -> Totals
     ensures { totalled_as result ≡ walked_as number net waits }
 {

@@ -190,9 +190,9 @@ waits-reached :
 unfolding wait_from delays_from
 waits-reached zero b s g f = (0, unmoved g)
 waits-reached (suc n) true s g f = (0, unmoved g)
-waits-reached {cells} (suc n) false s g f =
+waits-reached {cells = cells} {x = x} (suc n) false s g f =
     let r = millisecond-reached g f in
-    let q = waits-reached n (settled (millisecond cells s)) (millisecond cells s) r.stage (subst Fit (sym r.presets) f) in
+    let q = waits-reached {x = r.left} n (settled (millisecond cells s)) (millisecond cells s) r.stage (subst Fit (sym r.presets) f) in
     (choose (settled s) 0 1 + q.0, onward r q.1)
 
 pub wait-reached :
