@@ -1,6 +1,6 @@
 -- One step of the search for a byte, and its end.
 -- Assumes nothing.
-use Rattle.std.proofs.Common.{◌≡◌, ℕ, suc, ◌+◌, ◌-◌, ◌<◌, ◌≤◌, List, ◌∷◌, length, get_or, arith, add-one, drop-cons, eq-eqb, ne_eqb}
+use Rattle.std.proofs.Common.{◌≡◌, ℕ, ◌+◌, ◌<◌, ◌≤◌, List, ◌∷◌, length, get_or, take, length-take, length-take-le, get_or-take, drop_of_length-le, arith, add-one, drop-cons, eq-eqb, ne_eqb}
 use Rattle.scan.specs.Bytes.{index_after, index_of, slice}
 
 -- a part that is not empty begins with the element at its place
@@ -9,9 +9,8 @@ slice-cons :
     slice at to s ≡ get_or s at 0 ∷ slice (at + 1) to s
 unfolding slice
 slice-cons at to s h k =
-    let room : at < length s = omega arith in
-    let more : to - at ≡ suc (to - (at + 1)) = omega arith in
-    rw (more, add-one at, drop-cons s at 0 room)
+    let room : at < length (take to s) = rw (length-take-le to s k) h in
+    rw (drop-cons (take to s) at 0 room, get_or-take to at s 0 h, add-one at)
 
 -- the byte stands here
 pub found :
@@ -28,7 +27,10 @@ unfolding index_of index_after
 passed b at to s h k n =
     rw (slice-cons at to s h k) (simp (ne_eqb (get_or s at 0) b n) (omega arith))
 
+within : (to : ℕ) (s : List ℕ) → length (take to s) ≤ to
+within to s = rw (length-take to s) (omega arith)
+
 -- it stands nowhere
 pub found_none : (b to : ℕ) (s : List ℕ) → to + index_of b (slice to to s) ≡ to
 unfolding index_of slice
-found_none b to s = let none : to - to ≡ 0 = omega arith in rw none (omega arith)
+found_none b to s = rw (drop_of_length-le (take to s) (within to s)) (omega arith)
