@@ -10,7 +10,7 @@ slice-cons :
 unfolding slice
 slice-cons at to s h k =
     let room : at < length (take to s) = rw (length-take-le to s k) h in
-    rw (drop-cons (take to s) at 0 room, get_or-take to at s 0 h, add-one at)
+    rw (drop-cons (take to s) at 0 room, get_or-take to s at 0 h, add-one at)
 
 -- the byte stands here
 pub found :
