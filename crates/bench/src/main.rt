@@ -226,8 +226,8 @@ fn count_in(text: &[u8]) -> u32 {
 
 // The line, without its line feed.
 fn asked(line: &[u8]) -> u32 {
-    let end = bytes::scan::find(line, 0, line.len(), b'\n');
-    let at = bytes::scan::find(line, 0, end, b' ');
+    let end = scan::find(line, 0, line.len(), b'\n');
+    let at = scan::find(line, 0, end, b' ');
     if at < end {
         return named(&line[0..at], count_in(&line[at + 1..end]));
     }

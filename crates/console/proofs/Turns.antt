@@ -13,7 +13,7 @@ use borrow.Author.Tests.{ltb-true, ltb-false}
 use Rattle.laws.specs.Tests.{choose}
 use Rattle.laws.proofs.Tests.{choose-true, choose-false}
 use Rattle.machine.specs.declared.Machine.{Machine}
-use Rattle.bytes.specs.Bytes.{index_of, index_after}
+use Rattle.scan.specs.Bytes.{index_of, index_after}
 use Rattle.lines.specs.Strings.{given, before, ends, string_after, taken_of, Takes}
 use Rattle.lines.specs.declared.strings.Taken.{Taken}
 use Rattle.console.specs.Console.{answer_to, after_string, Standing, standing, byte_taken, console}

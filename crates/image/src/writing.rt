@@ -45,6 +45,6 @@ pub fn write(drive: Drive, buffer: &mut [u8]) -> Written
     if buffer.len() < length {
         return Written::Refused(Refusal::ShortBuffer);
     }
-    bytes::copy(&space[..length], buffer);
+    scan::copy(&space[..length], buffer);
     Written::Image { length }
 }

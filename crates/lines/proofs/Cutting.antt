@@ -12,7 +12,7 @@ use lib.Seq.{length-take-le, take_all, take-take, take-length, take-append-le, d
 use borrow.Author.Tests.{lt-ltb, le-ltb}
 use Rattle.laws.specs.Tests.{choose}
 use Rattle.laws.proofs.Tests.{lt-or-le, choose-true, choose-false}
-use Rattle.bytes.specs.Bytes.{index_of, slice}
+use Rattle.scan.specs.Bytes.{index_of, slice}
 use Rattle.lines.specs.Gathering.{gathered, Gathered}
 use Rattle.lines.specs.Strings.{given, before, ends, string_after, taken_of, Takes}
 

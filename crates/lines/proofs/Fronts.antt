@@ -5,7 +5,7 @@ use native.Mathlib.Omega.{arith}
 use mathlib.Core.Path.{◌≡◌, refl, sym, ap, subst, ◌∙◌}
 use mathlib.Core.Logic.{⊎_elim}
 use mathlib.Core.List.{List, [], ◌++◌, append_assoc, append-nil}
-use lib.ListN.{length, take, drop, length-take, length-drop, length-append}
+use lib.ListN.{length, take, drop, length-drop, length-append}
 use lib.Seq.{length-take-le, take_all, take-length, take-nil, take-append-add, take-append_seam, drop-length, drop-drop, drop-nil}
 use Rattle.laws.specs.Writing.{Put}
 use Rattle.laws.proofs.Tests.{lt-or-le}
@@ -47,7 +47,7 @@ gathered-parts l p n h k eh ek =
 -- what a copy of the piece behind the first h bytes leaves
 pub gather-copied :
     (l p ys : List ℕ) (n h k : ℕ) → h ≡ min n (length l) → k ≡ min (length l - h) (length p) →
-    ys ≡ take (length (take k p)) (take k p) ++ drop (length (take k p)) (take (length l - h) (drop h l)) →
+    ys ≡ take k p ++ drop (length (take k p)) (take (length l - h) (drop h l)) →
     Gathered l n p (take h l ++ (ys ++ drop (length l - h) (drop h l))) (h + k)
 gather-copied l p ys n h k eh ek e = record { next = sym size; now = now }
   where
@@ -61,7 +61,7 @@ gather-copied l p ys n h k eh ek e = record { next = sym size; now = now }
         ∙ rw (length-take-le h l (omega arith), length-take-le k p (omega arith)) refl
 
     piece : ys ≡ take k p ++ drop (h + k) l
-    piece = e ∙ rw (take-length (take k p), behind-place h l, length-take-le k p (omega arith), drop-drop k h l) refl
+    piece = e ∙ rw (behind-place h l, length-take-le k p (omega arith), drop-drop k h l) refl
 
     now : take h l ++ (ys ++ drop (length l - h) (drop h l)) ≡ gathered l n p ++ drop (length (gathered l n p)) l
     now = rw (drop-end h l, append-nil ys, piece, size, parts) (sym (append_assoc (take h l) (take k p) (drop (h + k) l)))

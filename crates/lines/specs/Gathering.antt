@@ -1,6 +1,6 @@
 -- Bytes put behind each other in a buffer, cut at its length.
 -- Assumes nothing.
-use Rattle.std.specs.Prelude.{ℕ, ◌≤◌, ◌≡◌, Bool, true, false, List, [], ◌∷◌, ◌++◌, length, take, drop}
+use Rattle.std.specs.Prelude.{ℕ, ◌≡◌, Bool, true, false, List, [], ◌∷◌, ◌++◌, length, take, drop}
 
 -- the first n bytes of a line, then a piece, cut at the line's length
 unfoldable pub gathered : List ℕ → ℕ → List ℕ → List ℕ

@@ -2,7 +2,7 @@
 -- Assumes nothing.
 use Rattle.std.specs.Prelude.{ℕ, ◌+◌, ◌≡◌, Bool, List, [], ◌∷◌, ◌++◌, length, take, drop, ltb}
 use Rattle.laws.specs.Tests.{choose}
-use Rattle.bytes.specs.Bytes.{index_of}
+use Rattle.scan.specs.Bytes.{index_of}
 use Rattle.lines.specs.declared.strings.Taken.{Taken}
 
 -- 01: "of a longer string the first 64 bytes and the 13 are given"; s is what stands before the 13

@@ -19,7 +19,7 @@ pub fn gather(line: &mut [u8], n: usize, piece: &[u8]) -> usize
 {
     let held = least(n, line.len());
     let more = least(line.len() - held, piece.len());
-    bytes::copy(&piece[..more], &mut line[held..]);
+    scan::copy(&piece[..more], &mut line[held..]);
     held + more
 }
 

@@ -21,7 +21,7 @@ pub fn take_string(block: &[u8], from: usize, string: &mut [u8], n: usize) -> Ta
     requires { (from ≤ length block.now) × (length string.old ≡ 65) }
     ensures { Takes block.now from string.old n string.new result }
 {
-    let end = bytes::scan::find(block, from, block.len(), CARRIAGE_RETURN);
+    let end = scan::find(block, from, block.len(), CARRIAGE_RETURN);
     let length = gather(&mut string[..64], n, &block[from..end]);
     if end < block.len() {
         string[length] = CARRIAGE_RETURN;

@@ -1,6 +1,6 @@
 // The words of a line of text, parted by one space.
 ghost use Rattle.std.specs.Prelude.{◌≡◌, ◌+◌, drop};
-ghost use Rattle.bytes.specs.Bytes.{index_of};
+ghost use Rattle.scan.specs.Bytes.{index_of};
 
 const SPACE: u8 = 32;
 
@@ -8,7 +8,7 @@ const SPACE: u8 = 32;
 pub fn word_length(line: &[u8]) -> usize
     ensures { result ≡ index_of 32 line.now }
 {
-    bytes::scan::find(line, 0, line.len(), SPACE)
+    scan::find(line, 0, line.len(), SPACE)
 }
 
 // What stands behind a place and its byte.

@@ -136,7 +136,7 @@ fn run(script: &[u8]) -> Score {
     let mut number: u64 = 0;
     let mut at = 0;
     while at < script.len() {
-        let end = bytes::scan::find(script, at, script.len(), LINE_FEED);
+        let end = scan::find(script, at, script.len(), LINE_FEED);
         number = std::num::wrapping_add_u64(number, 1);
         bench = take_line(bench, &script[at..end], number, &mut seen);
         if script.len() <= end {

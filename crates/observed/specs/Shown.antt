@@ -1,4 +1,4 @@
--- Bytes as text: "33 to 126 except the backslash as they are, others as `\x_nn`"; or all of them "in lower-case hex".
+-- Bytes as text: "33 to 126 except the backslash as they are, others as `\xNN`"; or all of them "in lower-case hex".
 -- Assumes nothing.
 use Rattle.std.specs.Prelude.{ℕ, ◌+◌, ◌/◌, ◌%◌, Bool, not, List, [], ◌∷◌, ◌++◌, ◌==◌, nat_le, nat_lt}
 use Rattle.laws.specs.Tests.{choose, both}

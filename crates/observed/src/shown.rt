@@ -30,7 +30,7 @@ pub fn digit_of(value: u8) -> u8
     87 + value
 }
 
-// A byte as it is, or as `\x_nn`.
+// A byte as it is, or as `\xNN`.
 fn gather_byte(line: &mut [u8], n: usize, byte: u8) -> usize
     ensures { Gathered line.old n (shown_byte byte) line.new result }
 {

@@ -35,7 +35,7 @@ unfoldable pub output_written : Machine → ℕ → ℕ → Written
 output_written m k v =
     put_together m.cells (output_set m.state k (is_one v)) (counts_of m.state) (both (ltb k 14) (leb v 1))
 
--- docs/SCRIPTS.md: "`c_nnn code p.. next`": a cell, by its place, set to a code, its parameters and its next
+-- docs/SCRIPTS.md: "`cNNN code p.. next`": a cell, by its place, set to a code, its parameters and its next
 unfoldable pub cell_set : List Cell → ℕ → Cell → List Cell
 cell_set cells k x = choose (ltb k 131) (set cells k x) cells
 

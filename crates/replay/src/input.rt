@@ -56,7 +56,7 @@ fn taken(mut input: Input, at: usize, block: &[u8], line: &mut [u8]) -> Input {
     if block.len() <= at {
         return input;
     }
-    let end = bytes::scan::find(block, at, block.len(), b'\n');
+    let end = scan::find(block, at, block.len(), b'\n');
     input.at = end;
     input.kept = gather(line, input.kept, &block[at..end]);
     if block.len() <= end {

@@ -4,7 +4,7 @@ use Rattle.std.proofs.Common.{◌≡◌, ℕ, ◌-◌, ◌^◌, List, [], ◌∷
 use Prim.Native.String.{String}
 use Rattle.laws.specs.Tests.{choose, both, either}
 use Rattle.laws.specs.Text.{bytes}
-use Rattle.bytes.specs.Bytes.{index_after}
+use Rattle.scan.specs.Bytes.{index_after}
 use Rattle.decimal.specs.Parsing.{value_from}
 use Rattle.fields.specs.Names.{pair_of, listed, list_of, place_from}
 use Rattle.fields.specs.Kinds.{name_of, parse_field}

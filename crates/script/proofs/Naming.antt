@@ -6,7 +6,7 @@ use Rattle.laws.specs.Tests.{both, either}
 use Rattle.laws.specs.Text.{bytes}
 use Rattle.laws.proofs.Tests.{both_left, both_right}
 use Rattle.laws.proofs.Telling.{told}
-use Rattle.bytes.specs.Bytes.{index_after}
+use Rattle.scan.specs.Bytes.{index_after}
 use Rattle.script.specs.Words.{in_first, parts_from, parts_of, words_of, same_bytes, place_of}
 use Rattle.script.specs.Writes.{field_names, signed_places, one_of, is_signed}
 

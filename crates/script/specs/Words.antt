@@ -2,7 +2,7 @@
 -- Assumes nothing.
 use Rattle.std.specs.Prelude.{ℕ, ◌+◌, Bool, true, false, List, [], ◌∷◌, length, drop, ◌==◌, nat_lt, slice_index_or}
 use Rattle.laws.specs.Tests.{choose, both}
-use Rattle.bytes.specs.Bytes.{index_after, index_of}
+use Rattle.scan.specs.Bytes.{index_after, index_of}
 
 -- the first place from `from` on where b stands, or the end
 unfoldable pub place_from : ℕ → ℕ → List ℕ → ℕ

@@ -65,7 +65,7 @@ output_of words =
     (named_output (parse_field (Name Outputs) (slice_index_or words 2 [])) (unsigned_of (slice_index_or words 3 [])))
     (Malformed MissingOrExtraWord)
 
--- ---- a cell: "`c_nnn code p.. next`: cell NNN"
+-- ---- a cell: "`cNNN code p.. next`: cell NNN"
 
 unfoldable pub value_or0 : Number → ℕ
 value_or0 (number.Value v) = v

@@ -11,7 +11,7 @@ pub fn find(s: &[u8], from: usize, byte: u8) -> usize
     if s.len() <= from {
         return s.len();
     }
-    bytes::scan::find(s, from, s.len(), byte)
+    scan::find(s, from, s.len(), byte)
 }
 
 // How many parts there are: one more than separators.

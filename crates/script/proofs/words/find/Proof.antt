@@ -2,7 +2,7 @@
 -- Assumes nothing.
 use Rattle.std.proofs.Common.{ℕ, ◌+◌, List, drop, sym, ap, ◌∙◌, arith, rules}
 use lib.Seq.{take-length}
-use Rattle.bytes.specs.Bytes.{index_of, slice}
+use Rattle.scan.specs.Bytes.{index_of, slice}
 use Rattle.script.proofs.Parts.{place_inside, place-outside}
 use Rattle.script.proofs.words.find.Statement.{statement}
 use Rattle.script.proofs.words.find.Tie as tie

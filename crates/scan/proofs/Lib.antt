@@ -1,0 +1,2 @@
+-- Searching: one step of the search for a byte, and its end.
+mod Searching
