@@ -16,6 +16,7 @@ pub enum Added {
     Other,
 }
 
+#[tactic(auto, unfolding(crate::specs::Adding::net_of))]
 fn run(steps: Steps, x4: bool) -> Added
     ensures { result ≡ Counted (net_of steps x4) (waits 0) }
 {
@@ -35,6 +36,7 @@ fn pause(delay: Milliseconds) -> Added
 }
 
 impl Instruction {
+    #[tactic(auto, unfolding(crate::specs::Adding::added_of, crate::specs::Adding::is_one_of, crate::specs::Adding::net_of, crate::specs::Adding::delay_of, units::specs::Shift::scaled_of, units::specs::Shift::multiplier_of, crate::specs::Codes::code_of, crate::specs::Numbers::numbers_with, crate::specs::Runs::profile_of, laws::specs::Tests::choose, laws::specs::Tests::either))]
     pub fn adds(self) -> Added
         ensures { result ≡ added_of self }
     {

@@ -6,6 +6,7 @@ ghost use Rattle.instruction.specs.Codes.{code_of};
 use crate::Instruction;
 
 impl Instruction {
+    #[tactic(auto, unfolding(crate::specs::Codes::code_of))]
     pub fn code(self) -> u8
         ensures { result ≡ code_of self }
     {
@@ -35,6 +36,7 @@ impl Instruction {
 
     // How many fields the row of its code has. Asked of an instruction, so that a memory is written
     // without a look at its code.
+    #[tactic(auto, unfolding(crate::specs::Codes::code_of, format::specs::Formats::fields_of, format::specs::Formats::fields_in, laws::specs::Tests::choose))]
     pub fn field_count(self) -> usize
         ensures { result ≡ length (fields_of (code_of self)) }
     {

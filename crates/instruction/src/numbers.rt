@@ -58,6 +58,7 @@ impl Travel {
     }
 }
 
+#[tactic(auto, unfolding(crate::specs::Numbers::travel_of, laws::specs::Tests::choose))]
 fn travel(backward: bool, x4: bool) -> Travel
     ensures { result ≡ travel_of backward x4 }
 {
@@ -124,6 +125,7 @@ fn stop_numbers(f: u8, r: u8, t: Travel, n: Steps, next: u32) -> [u32; 6]
 
 impl Instruction {
     // The numbers of an instruction with its next cell.
+    #[tactic(auto, unfolding(crate::specs::Numbers::numbers_with))]
     fn numbers(self, next: u32) -> [u32; 6]
         ensures { result ≡ numbers_with self next }
     {
@@ -229,6 +231,7 @@ fn with_next(instruction: Instruction, next: u32) -> Cell
 }
 
 // A cam setting in its stored form.
+#[tactic(auto, unfolding(crate::specs::Numbers::cam_of, laws::specs::Tests::choose))]
 fn cam(set: bool, position: u32) -> Instruction
     ensures { result ≡ cam_of set position }
 {
@@ -370,6 +373,7 @@ fn conditional_jump(i: u32, v: u32, e: u32) -> Instruction
 }
 
 // The cell of a code and its numbers.
+#[tactic(auto, unfolding(crate::specs::Numbers::cell_of, crate::specs::Numbers::cell_with, laws::specs::Tests::choose))]
 pub fn cell_of(code: u32, v: &[u32; 6]) -> Cell
     ensures { result ≡ cell_of code v.now }
 {

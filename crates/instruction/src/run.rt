@@ -127,6 +127,7 @@ fn hertz(f: Frequency) -> u32
 }
 
 impl Instruction {
+    #[tactic(auto, unfolding(crate::specs::Runs::profile_of))]
     pub fn profile(self) -> Profile
         ensures { result ≡ profile_of self }
     {

@@ -7,6 +7,7 @@ use units::CellAddress;
 
 impl Instruction {
     // EEE of a 62 or a 63; of any other its next, which is a cell's only way then.
+    #[tactic(auto, unfolding(crate::specs::Ways::jump_of))]
     pub fn jump(self, next: CellAddress) -> CellAddress
         ensures { result ≡ jump_of self next }
     {
