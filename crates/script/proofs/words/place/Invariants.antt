@@ -1,0 +1,13 @@
+-- Invariant: the place is that in the names left, counted on from the names passed. Measure: the names left.
+-- Assumes nothing.
+use Rattle.std.proofs.Common.{◌≡◌, ◌+◌, ◌-◌, ◌≤◌, List, length, drop, sym, ap, ◌∙◌, arith, rules}
+use Rattle.script.specs.Words.{part_at, words_of, same_bytes, place_of}
+use Rattle.script.proofs.Naming.{same-as, place_here, place-next, place_end}
+use Rattle.script.proofs.words.place.Given as goal
+
+abbrev pub invariant-loop-k : goal.invariant-loop-k
+invariant-loop-k l =
+    (l.n ≡ length (words_of l.list)) × ((l.k ≤ l.n) × (place_of l.name (words_of l.list) ≡ l.k + place_of l.name (drop l.k (words_of l.list))))
+
+abbrev pub decreases-loop-k : goal.decreases-loop-k
+decreases-loop-k l = l.n - l.k
