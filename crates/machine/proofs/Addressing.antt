@@ -11,7 +11,7 @@ use lib.ListN.{length, length-append}
 use lib.Seq.{take_at, get_or_at}
 use lib.Dec.{eqb}
 use borrow.Author.Tests.{eq-eqb, ne_eqb, le-leb, le-ltb}
-use Rattle.laws.specs.Tests.{choose, both, either}
+use Rattle.laws.specs.Tests.{both, either}
 use Rattle.laws.proofs.Tests.{both_true, choose-true, choose-false}
 use Rattle.decimal.specs.Printing.{digits}
 use Rattle.machine.specs.Record.{idle}

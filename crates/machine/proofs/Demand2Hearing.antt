@@ -10,7 +10,6 @@ use lib.Dec.{ltb}
 use lib.ListN.{length, get_or}
 use borrow.Author.Tests.{eqb-true}
 use Rattle.laws.specs.Tests.{both, either}
-use Rattle.laws.specs.Tables.{every}
 use Rattle.laws.specs.Text.{bytes}
 use Rattle.laws.proofs.Tests.{both_left, both_right, choose-by, choose-false}
 use Rattle.fields.specs.Names.{pair_of}
@@ -23,7 +22,6 @@ use Rattle.instruction.specs.declared.text.Sent.{Sent}
 use Rattle.instruction.specs.declared.text.Sent.TheVariants.{Held}
 use Rattle.instruction.specs.declared.text.Sent.TheVariants as sent
 use Rattle.machine.specs.Record.{idle}
-use Rattle.machine.specs.Soundness.{sound}
 use Rattle.machine.specs.Commands.{code_in, is_code, on_all, on_sent, store_in, preset_in, cam_with, cam_in, command_by, command_of}
 use Rattle.machine.specs.Answers.{answer_of, accepted, rejected, answer_at}
 use Rattle.machine.specs.Acting.{acted_at, cells_after, machine_after}

@@ -34,7 +34,7 @@ use Rattle.machine.specs.Calls.{Outcome, look}
 use Rattle.machine.specs.Demand2.{own, own_address, address_at, place_field, storing, Accepted}
 use Rattle.machine.specs.declared.Machine.{Machine}
 use Rattle.machine.specs.declared.commands.Command.{Command}
-use Rattle.machine.specs.declared.commands.Command.TheVariants.{Store, Wrong}
+use Rattle.machine.specs.declared.commands.Command.TheVariants.{Store}
 use Rattle.machine.proofs.Invariant.{Good}
 use Rattle.machine.proofs.Addressing.{told-own}
 use Rattle.machine.proofs.Answering.{own-small, apply-string}

@@ -19,7 +19,7 @@ use Rattle.instruction.specs.declared.Cell.{Cell as Content}
 use Rattle.machine.specs.Record.{cell_at, stored_at, null_cell, idle}
 use Rattle.machine.specs.Soundness.{sound}
 use Rattle.machine.specs.Commands.{code_in, is_code, command_of}
-use Rattle.machine.specs.Answers.{memory_text, answer_of, accepted}
+use Rattle.machine.specs.Answers.{memory_text, answer_of}
 use Rattle.machine.specs.Acting.{stored_state, acted_at, cells_after, machine_after}
 use Rattle.machine.specs.Strings.{Heard, body_of, told}
 use Rattle.machine.specs.Calls.{Call, Outcome, answered, act, apply, next, look}

@@ -5,22 +5,20 @@ use native.Mathlib.Omega.{arith}
 use mathlib.Core.Path.{◌≡◌, refl, ap, ap₂, sym, ◌∙◌, subst}
 use mathlib.Core.Bool.{true}
 use mathlib.Core.Logic.{◌⊎◌, inl, inr}
-use mathlib.Core.List.{List, [], ◌∷◌, ◌++◌}
-use lib.Dec.{eqb, ltb}
+use mathlib.Core.List.{List, ◌++◌}
+use lib.Dec.{ltb}
 use lib.ListN.{length, take, drop, replicate}
 use lib.Seq.{length-take-le, take-append_seam, take-append-le, take_all}
-use borrow.Author.Tests.{le-ltb, ltb-false}
-use Rattle.laws.specs.Tests.{choose}
-use Rattle.laws.specs.Tables.{every}
-use Rattle.laws.proofs.Tests.{both_left, both_right, both_true, choose-by, choose-true, choose-false}
+use borrow.Author.Tests.{le-ltb}
+use Rattle.laws.proofs.Tests.{both_left, choose-by, choose-true, choose-false}
 use Rattle.instruction.specs.declared.Cell.{Cell}
 use Rattle.packed.specs.Rows.{row_bytes, read_row}
 use Rattle.packed.specs.Cells.{cells_bytes, ReadCells}
 use Rattle.packed.specs.Cells.ReadCells.{NoCells, Cells}
 use Rattle.machine.specs.Record.{null_cell}
-use Rattle.machine.specs.Soundness.{presets_sound, state_sound, sound}
+use Rattle.machine.specs.Soundness.{state_sound, sound}
 use Rattle.machine.specs.Operations.{filled, Made}
-use Rattle.machine.specs.Operations.Made.{NotMade, Drive}
+use Rattle.machine.specs.Operations.Made.{Drive}
 use Rattle.machine.specs.Images.{preset_kinds, preset_numbers, image_of, Written, written_into, buffer_by, buffer_written, fresh_with, not_loaded, holds_presets, loaded_with, loaded_after, loaded_by, loaded_of}
 use Rattle.machine.specs.Images.Written.{Image}
 use Rattle.machine.specs.Invariant.{Kept}

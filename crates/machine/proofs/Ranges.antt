@@ -1,6 +1,6 @@
 -- What a string asks for lies in 01's ranges.
 -- Assumes nothing.
-use Prim.Native.Nat.{ℕ, ◌-◌, ◌≤◌, ◌<◌, ◌^◌, ◌%◌}
+use Prim.Native.Nat.{ℕ, ◌-◌, ◌≤◌, ◌^◌, ◌%◌}
 use native.Mathlib.Nat.{mod-eq_of_lt, mod-le}
 use native.Mathlib.Omega.{arith}
 use mathlib.Core.Path.{◌≡◌, refl, sym, ap, ◌∙◌}
@@ -8,12 +8,12 @@ use mathlib.Core.Bool.{Bool, true, false}
 use mathlib.Core.List.{List, [], ◌∷◌}
 use lib.ListN.{length, get_or}
 use lib.Dec.{eqb, ltb, lit≤}
-use borrow.Author.Tests.{eqb-true, leb-true, ltb-true}
+use borrow.Author.Tests.{eqb-true, leb-true}
 use Rattle.laws.specs.Tests.{choose, both, either}
 use Rattle.laws.specs.Tables.{every}
 use Rattle.laws.specs.Text.{bytes}
 use Rattle.laws.proofs.Tests.{both_left, both_right, both_true, choose-by}
-use Rattle.fields.specs.Names.{pair_of, listed, list_of}
+use Rattle.fields.specs.Names.{pair_of}
 use Rattle.fields.specs.Kinds.{good_signed, good, valid_signed, valid}
 use Rattle.fields.specs.Rows.{parse_fields, parse_all, all_good, all_valid}
 use Rattle.fields.specs.declared.kinds.Kind.{Kind}
@@ -22,7 +22,6 @@ use Rattle.fields.specs.declared.names.Names.TheVariants.{Settable, Outputs, Inp
 use Rattle.fields.specs.declared.rows.Parsed.{Parsed}
 use Rattle.fields.proofs.Validity.{fields-valid, all_valid_lem}
 use Rattle.format.specs.Formats.{cell, bit}
-use Rattle.instruction.specs.Numbers.{byte_of}
 use Rattle.instruction.specs.Soundness.{cell_sound}
 use Rattle.instruction.specs.Texts.{sent_cell}
 use Rattle.instruction.specs.declared.text.Sent.{Sent}

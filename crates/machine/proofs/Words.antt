@@ -3,12 +3,12 @@
 -- Assumes nothing.
 use Prim.Native.Nat.{ℕ}
 use mathlib.Core.Path.{◌≡◌, refl, sym, ap, subst, ◌∙◌}
-use mathlib.Core.Bool.{Bool, true, false, not}
+use mathlib.Core.Bool.{Bool, true, false}
 use mathlib.Core.List.{List}
 use mathlib.Core.Logic.{◌⊎◌, inl, inr}
 use lib.Dec.{eqb}
 use borrow.Author.Tests.{not-true}
-use Rattle.laws.specs.Tests.{choose, both}
+use Rattle.laws.specs.Tests.{choose}
 use Rattle.laws.proofs.Tests.{choose-by, choose-false, both_left, both_right}
 use Rattle.units.specs.declared.CellAddress.{CellAddress}
 use Rattle.instruction.specs.Runs.{profile_of}
@@ -16,12 +16,12 @@ use Rattle.instruction.specs.declared.Cell.{Cell}
 use Rattle.instruction.specs.declared.run.Motion.{Motion}
 use Rattle.instruction.specs.declared.run.Motion.TheVariants.{NoRun, IndexedRun, FreeRun, SearchRun, DelayedStopRun}
 use Rattle.instruction.specs.declared.run.Profile.{Profile}
-use Rattle.machine.specs.Record.{with_inputs, with_running, stopped, idle, input_at, in_st, in_es, in_ee, in_px}
-use Rattle.machine.specs.Starting.{started, advanced, waiting_at}
+use Rattle.machine.specs.Record.{with_inputs, idle, input_at, in_es, in_ee, in_px}
+use Rattle.machine.specs.Starting.{advanced}
 use Rattle.machine.specs.Taking.{is_recovery}
 use Rattle.machine.specs.Milliseconds.{present}
 use Rattle.machine.specs.Stopping.{free_run_stop_of, free_run_stop_in, free_run_stop_at, px_seen_in, px_seen_at, emergency_in, emergency_stop_at}
-use Rattle.machine.specs.InputWords.{inputs_of, selected_cell, starts, judged_st, judged_ee, judged_es, judged_px, judged_word, input_word_at, input_word}
+use Rattle.machine.specs.InputWords.{inputs_of, starts, judged_st, judged_ee, judged_es, judged_px, judged_word, input_word_at, input_word}
 use Rattle.machine.specs.declared.Phase.{Phase}
 use Rattle.machine.specs.declared.Phase.TheVariants.{Waiting, Delay, Run, Braking, Slowing, EmergencySlowing, BackOff}
 use Rattle.machine.specs.declared.State.{State}

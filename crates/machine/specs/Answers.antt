@@ -1,13 +1,12 @@
 -- 01, "Strings": the bytes that answer. "Requests repeat themselves with the value after".
 -- Assumes nothing.
-use Rattle.std.specs.Prelude.{ℕ, ◌+◌, ◌*◌, ◌^◌, ◌-◌, Bool, true, false, List, [], ◌∷◌, ◌++◌, get_or, eqb, ltb}
+use Rattle.std.specs.Prelude.{ℕ, List, [], ◌∷◌, ◌++◌, eqb, ltb}
 use Prim.Native.String.{String}
 use Rattle.laws.specs.Tests.{choose}
 use Rattle.laws.specs.Text.{bytes}
 use Rattle.decimal.specs.Printing.{digits}
 use Rattle.fields.specs.Rows.{print_fields}
-use Rattle.fields.specs.declared.kinds.Kind.{Kind}
-use Rattle.fields.specs.declared.kinds.Kind.TheVariants.{Fixed, Count, Signed, Name}
+use Rattle.fields.specs.declared.kinds.Kind.TheVariants.{Fixed, Count, Name}
 use Rattle.fields.specs.declared.names.Names.TheVariants.{Outputs, Inputs, Presets}
 use Rattle.units.specs.Limits.{loop_limit}
 use Rattle.units.specs.Bits.{bits_of}

@@ -1,6 +1,6 @@
 -- Calls, lists of calls, and what is seen of them: "Its calls are the events and waits."
 -- Assumes nothing.
-use Rattle.std.specs.Prelude.{ℕ, Bool, true, false, List, [], ◌∷◌, map, length, leb, ltb}
+use Rattle.std.specs.Prelude.{ℕ, Bool, true, List, [], ◌∷◌, map, length, leb, ltb}
 use Rattle.laws.specs.Tests.{choose, both}
 use Rattle.laws.specs.Tables.{every}
 use Rattle.instruction.specs.declared.Cell.{Cell}

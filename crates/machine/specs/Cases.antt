@@ -1,14 +1,12 @@
 -- The cases that 01, "Bench strings and near misses", marks with *, in one table. A fresh drive of address 00 is meant.
 -- Assumes nothing.
-use Rattle.std.specs.Prelude.{ℕ, Bool, true, false, List, [], ◌∷◌, ◌++◌, replicate, eqb}
+use Rattle.std.specs.Prelude.{ℕ, Bool, List, [], ◌∷◌, ◌++◌, replicate, eqb}
 use Prim.Native.String.{String}
-use Rattle.laws.specs.Tests.{choose, both}
-use Rattle.laws.specs.Tables.{every}
 use Rattle.laws.specs.Text.{bytes}
 use Rattle.frequency.specs.Rounding.{round_of}
 use Rattle.instruction.specs.Numbers.{same_numbers}
 use Rattle.machine.specs.Record.{fresh, moving}
-use Rattle.machine.specs.Calls.{Call, next, look, after}
+use Rattle.machine.specs.Calls.{Call, next, look}
 use Rattle.machine.specs.Calls.Call.{SendString, Millisecond}
 use Rattle.machine.specs.declared.Machine.{Machine}
 

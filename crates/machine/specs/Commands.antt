@@ -1,6 +1,6 @@
 -- 01, "Strings": what a string asks for. The string stands here without its byte 13; its code is bytes 3 and 4, its fields follow.
 -- Assumes nothing.
-use Rattle.std.specs.Prelude.{ℕ, ◌+◌, ◌*◌, ◌^◌, ◌-◌, Bool, true, false, List, [], ◌∷◌, length, get_or, drop, eqb, ltb}
+use Rattle.std.specs.Prelude.{ℕ, ◌^◌, ◌-◌, Bool, true, false, List, [], ◌∷◌, get_or, drop, eqb, ltb}
 use Prim.Native.String.{String}
 use Rattle.laws.specs.Tests.{choose, both}
 use Rattle.laws.specs.Text.{bytes}

@@ -1,6 +1,6 @@
 -- 01, "Carrying out": a millisecond.
 -- Assumes nothing.
-use Rattle.std.specs.Prelude.{ℕ, ◌-◌, Bool, true, false, List, leb}
+use Rattle.std.specs.Prelude.{◌-◌, List, leb}
 use Rattle.laws.specs.Tests.{choose}
 use Rattle.units.specs.declared.CellAddress.{CellAddress}
 use Rattle.instruction.specs.declared.Cell.{Cell}

@@ -1,6 +1,6 @@
 -- 01, "Carrying out": "After each event the order to the board is ..".
 -- Assumes nothing.
-use Rattle.std.specs.Prelude.{ℕ, ◌*◌, Bool, true, false, not, List, pos}
+use Rattle.std.specs.Prelude.{ℕ, ◌*◌, Bool, not, List}
 use Rattle.laws.specs.Tests.{choose}
 use Rattle.units.specs.declared.Steps.{Steps}
 use Rattle.instruction.specs.Runs.{profile_of, still}

@@ -1,7 +1,6 @@
 -- 01: "The full reading, at the drive's own address: QM of 131 cells, QS of 5, QA, QO of O0 to O3, FC, F0 to F7, CU, QI of 11, QC, QE, QR: 165."
 -- Assumes nothing.
 use Rattle.std.specs.Prelude.{ℕ, zero, suc, ◌+◌, List, [], ◌∷◌, ◌++◌, map, replicate, set}
-use Prim.Native.String.{String}
 use Rattle.laws.specs.Text.{bytes}
 use Rattle.decimal.specs.Printing.{digits}
 use Rattle.fields.specs.Rows.{print_fields}

@@ -6,12 +6,10 @@ use Rattle.units.specs.declared.DriveAddress.{DriveAddress}
 use Rattle.units.specs.declared.position.Position.{Position}
 use Rattle.instruction.specs.declared.Cell.{Cell}
 use Rattle.instruction.specs.declared.Instruction.TheVariants.{Null}
-use Rattle.machine.specs.declared.Resolution.{Resolution}
 use Rattle.machine.specs.declared.Resolution.TheVariants.{D2}
 use Rattle.machine.specs.declared.Presets.{Presets}
 use Rattle.machine.specs.declared.Cam.{Cam}
 use Rattle.machine.specs.declared.Fault.{Fault}
-use Rattle.machine.specs.declared.Remaining.{Remaining}
 use Rattle.machine.specs.declared.Remaining.TheVariants.{Nothing}
 use Rattle.machine.specs.declared.Suspended.{Suspended}
 use Rattle.machine.specs.declared.Phase.{Phase}

@@ -1,6 +1,6 @@
 -- 01, "Carrying out": at-speed and halted, reported by the board.
 -- Assumes nothing.
-use Rattle.std.specs.Prelude.{ℕ, Bool, true, false, not, List, eqb}
+use Rattle.std.specs.Prelude.{Bool, true, false, not, List, eqb}
 use Rattle.laws.specs.Tests.{choose}
 use Rattle.units.specs.declared.CellAddress.{CellAddress}
 use Rattle.instruction.specs.Runs.{profile_of}
@@ -15,7 +15,6 @@ use Rattle.machine.specs.Stopping.{interrupted, abandoned}
 use Rattle.machine.specs.declared.Remaining.TheVariants.{Nothing}
 use Rattle.machine.specs.declared.Phase.{Phase}
 use Rattle.machine.specs.declared.Phase.TheVariants.{Waiting, Delay, Run, Braking, Slowing, EmergencySlowing, BackOff}
-use Rattle.machine.specs.declared.Running.{Running}
 use Rattle.machine.specs.declared.State.{State}
 
 abbrev pub runs_or_brakes : Phase → Bool

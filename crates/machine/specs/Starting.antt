@@ -1,6 +1,6 @@
 -- 01, "Carrying out": starting a program, going on to the next cell, ending with an error.
 -- Assumes nothing.
-use Rattle.std.specs.Prelude.{ℕ, Bool, true, false, eqb}
+use Rattle.std.specs.Prelude.{ℕ, false, eqb}
 use Rattle.laws.specs.Tests.{choose}
 use Rattle.units.specs.declared.CellAddress.{CellAddress}
 use Rattle.machine.specs.Record.{no_fault, with_fault, with_running, stopped}

@@ -1,12 +1,10 @@
 -- 01, "Carrying out": a step reported by the board.
 -- Assumes nothing.
-use Rattle.std.specs.Prelude.{ℕ, Bool, true, false, not, List, eqb}
+use Rattle.std.specs.Prelude.{Bool, false, not, List, eqb}
 use Rattle.laws.specs.Tests.{choose, both}
 use Rattle.units.specs.Position.{stepped_of}
 use Rattle.units.specs.Remaining.{is_zero_of, is_negative_of, nearer_of}
 use Rattle.units.specs.declared.CellAddress.{CellAddress}
-use Rattle.units.specs.declared.Steps.{Steps}
-use Rattle.units.specs.declared.position.Position.{Position}
 use Rattle.instruction.specs.Runs.{profile_of}
 use Rattle.instruction.specs.declared.Cell.{Cell}
 use Rattle.instruction.specs.declared.run.Motion.{Motion}
@@ -20,7 +18,6 @@ use Rattle.machine.specs.declared.Remaining.{Remaining}
 use Rattle.machine.specs.declared.Remaining.TheVariants.{Nothing, Counted, Timed}
 use Rattle.machine.specs.declared.Phase.{Phase}
 use Rattle.machine.specs.declared.Phase.TheVariants.{Waiting, Delay, Run, Braking, Slowing, EmergencySlowing, BackOff}
-use Rattle.machine.specs.declared.Running.{Running}
 use Rattle.machine.specs.declared.State.{State}
 
 -- 01: "A rest of steps has the sign of its direction"

@@ -1,6 +1,6 @@
 -- 01, "Carrying out": the free run stop, the emergency stop, and PX.
 -- Assumes nothing.
-use Rattle.std.specs.Prelude.{ℕ, Bool, true, false, List, eqb, ℤ, pos, neg_ℤ}
+use Rattle.std.specs.Prelude.{Bool, List, eqb, ℤ, pos, neg_ℤ}
 use Rattle.laws.specs.Tests.{choose}
 use Rattle.units.specs.Shift.{scaled_of}
 use Rattle.units.specs.Remaining.{is_zero_of}
@@ -15,8 +15,7 @@ use Rattle.machine.specs.Record.{nothing_suspended, with_suspended, stopped, idl
 use Rattle.machine.specs.Starting.{advanced, in_phase}
 use Rattle.machine.specs.Taking.{is_recovery}
 use Rattle.machine.specs.Milliseconds.{present}
-use Rattle.machine.specs.declared.Remaining.{Remaining}
-use Rattle.machine.specs.declared.Remaining.TheVariants.{Nothing, Counted, Timed}
+use Rattle.machine.specs.declared.Remaining.TheVariants.{Nothing, Counted}
 use Rattle.machine.specs.declared.Suspended.{Suspended}
 use Rattle.machine.specs.declared.Phase.{Phase}
 use Rattle.machine.specs.declared.Phase.TheVariants.{Waiting, Delay, Run, Braking, Slowing, EmergencySlowing, BackOff}

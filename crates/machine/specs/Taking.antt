@@ -6,7 +6,6 @@ use Rattle.units.specs.Shift.{shift_of, is_beyond_of}
 use Rattle.units.specs.Remaining.{is_zero_of}
 use Rattle.units.specs.declared.CellAddress.{CellAddress}
 use Rattle.units.specs.declared.Milliseconds.{Milliseconds}
-use Rattle.units.specs.declared.Steps.{Steps}
 use Rattle.instruction.specs.Codes.{code_of}
 use Rattle.instruction.specs.Runs.{profile_of}
 use Rattle.instruction.specs.declared.Cell.{Cell}
@@ -16,13 +15,12 @@ use Rattle.instruction.specs.declared.Instruction.TheVariants.{Null, IndexedRamp
 use Rattle.instruction.specs.declared.run.Motion.{Motion}
 use Rattle.instruction.specs.declared.run.Motion.TheVariants.{NoRun, IndexedRun, FreeRun, SearchRun, DelayedStopRun}
 use Rattle.instruction.specs.declared.run.Profile.{Profile}
-use Rattle.machine.specs.Record.{cell_at, origin, nothing_suspended, with_position, with_cam, with_suspended, with_running, with_loop_count, with_output, input_at, in_px, in_es, out_f0, out_cu, stopped, is_absolute}
+use Rattle.machine.specs.Record.{origin, nothing_suspended, with_position, with_cam, with_suspended, with_running, with_loop_count, with_output, input_at, in_px, in_es, out_f0, out_cu, stopped, is_absolute}
 use Rattle.machine.specs.Starting.{waiting_at, advanced, failed, entered}
 use Rattle.machine.specs.declared.Resolution.{Resolution}
 use Rattle.machine.specs.declared.Resolution.TheVariants.{D0, D1, D2, D3, B0, B1, B2, B3}
 use Rattle.machine.specs.declared.Remaining.{Remaining}
 use Rattle.machine.specs.declared.Remaining.TheVariants.{Nothing, Counted, Timed}
-use Rattle.machine.specs.declared.Suspended.{Suspended}
 use Rattle.machine.specs.declared.Phase.TheVariants.{Delay, Run, BackOff}
 use Rattle.machine.specs.declared.State.{State}
 

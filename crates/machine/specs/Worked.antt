@@ -1,6 +1,6 @@
 -- The form of a worked case: some calls on a fresh drive of address 00, and what must come next. The cases are in WorkedCases.
 -- Assumes nothing.
-use Rattle.std.specs.Prelude.{ℕ, ◌+◌, ◌^◌, Bool, true, false, List, [], ◌∷◌, ◌++◌, eqb}
+use Rattle.std.specs.Prelude.{ℕ, ◌+◌, ◌^◌, Bool, List, [], ◌∷◌, ◌++◌, eqb}
 use Prim.Native.String.{String}
 use Rattle.laws.specs.Tests.{choose, both}
 use Rattle.laws.specs.Tables.{every}

@@ -1,7 +1,7 @@
 -- Worked cases: what must come after a list of calls, from the sentences of 01 and of 02's Slips 4 and 6, and from the examples of chapters 3 to 5 of 001, which are
 -- given here at address 00 and in 01's forms. A case is named by its sentence or paragraph; " .. " leaves words out. The form of a case is in Worked.
 -- Assumes nothing.
-use Rattle.std.specs.Prelude.{ℕ, ◌+◌, ◌≡◌, List, [], ◌∷◌, replicate}
+use Rattle.std.specs.Prelude.{◌+◌, ◌≡◌, List, [], ◌∷◌, replicate}
 use Rattle.machine.specs.Calls.Call.{SendString, SetInputs, Millisecond, Step, AtSpeed, Halted, Wait}
 use Rattle.machine.specs.Cases.{send}
 use Rattle.machine.specs.Worked.{Worked, unmet, i1, px, s0, s1, s2, s3, st, es, ee}

@@ -18,7 +18,7 @@ use Rattle.format.proofs.Entries.{formats-few}
 use Rattle.instruction.specs.Codes.{code_of}
 use Rattle.instruction.specs.Numbers.{numbers_of, cell_of, same_numbers}
 use Rattle.instruction.specs.declared.Cell.{Cell}
-use Rattle.instruction.proofs.Numbering.{known-code, length-numbers}
+use Rattle.instruction.proofs.Numbering.{length-numbers}
 use Rattle.packed.specs.Rows.{row_bytes, read_row}
 use Rattle.packed.specs.Layout.{laid, laid_read, parsed_as, Writable}
 use Rattle.packed.specs.Cells.{cell_bytes, cell_by, cell_after, cell_in}

@@ -1,7 +1,5 @@
 -- The code, then the row of that code.
 -- Assumes nothing.
-use mathlib.Core.Path.{◌∙◌}
-use borrow.Author.Rules.{rules}
 use Rattle.laws.proofs.Writing.{put-append, put_as}
 use Rattle.packed.proofs.CellSteps.{code-room, row-writable, bytes-laid}
 use Rattle.packed.proofs.cells.put_cell.Goals as goal

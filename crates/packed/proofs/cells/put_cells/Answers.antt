@@ -1,13 +1,9 @@
 -- Invariant: the cells left have room, and written from the place reached they complete the whole. Measure: the cells left.
 -- Assumes nothing.
-use Prim.Native.Nat.{ℕ, ◌+◌, ◌-◌, ◌≤◌}
 use native.Mathlib.Omega.{arith}
-use mathlib.Core.Path.{◌≡◌, ◌∙◌, ap, refl, sym}
-use mathlib.Core.List.{List}
-use lib.ListN.{length, take, drop, length-append}
-use Rattle.laws.specs.Writing.{Put}
+use mathlib.Core.Path.{◌∙◌, ap, refl, sym}
+use lib.ListN.{length, length-append}
 use Rattle.laws.proofs.Writing.{put-none, put-append, put_as}
-use Rattle.packed.specs.Cells.{cells_bytes}
 use Rattle.packed.proofs.CellTurns.{cells-start, cells-next, cells-end}
 use Rattle.packed.proofs.cells.put_cells.Goals as goal
 

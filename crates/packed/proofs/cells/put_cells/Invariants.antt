@@ -1,14 +1,11 @@
 -- Invariant: the cells left have room, and written from the place reached they complete the whole. Measure: the cells left.
 -- Assumes nothing.
 use Prim.Native.Nat.{ℕ, ◌+◌, ◌-◌, ◌≤◌}
-use native.Mathlib.Omega.{arith}
-use mathlib.Core.Path.{◌≡◌, ◌∙◌, ap, refl, sym}
+use mathlib.Core.Path.{◌≡◌}
 use mathlib.Core.List.{List}
-use lib.ListN.{length, take, drop, length-append}
+use lib.ListN.{length, take, drop}
 use Rattle.laws.specs.Writing.{Put}
-use Rattle.laws.proofs.Writing.{put-none, put-append, put_as}
 use Rattle.packed.specs.Cells.{cells_bytes}
-use Rattle.packed.proofs.CellTurns.{cells-start, cells-next, cells-end}
 use Rattle.packed.proofs.cells.put_cells.Given as goal
 
 abbrev pub invariant-loop-i : goal.invariant-loop-i

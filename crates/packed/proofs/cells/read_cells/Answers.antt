@@ -1,11 +1,8 @@
 -- Invariant: the cells left, read from the place reached and stored after those so far, give the whole result. Measure: the cells left.
 -- Assumes nothing.
-use Prim.Native.Nat.{◌-◌}
 use native.Mathlib.Omega.{arith}
-use mathlib.Core.Path.{◌≡◌, ◌∙◌, sym}
-use borrow.Author.Rules.{rules}
-use Rattle.format.specs.Formats.{codes}
-use Rattle.packed.specs.Cells.{cells_from, cells_as}
+use mathlib.Core.Path.{◌∙◌, sym}
+use Rattle.packed.specs.Cells.{cells_as}
 use Rattle.packed.proofs.CellTurns.{coded-wrong, coded-held, from_start, from_wrong, from_next, from_end}
 use Rattle.packed.proofs.cells.read_cells.Goals as goal
 

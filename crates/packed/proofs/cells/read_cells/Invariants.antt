@@ -1,12 +1,9 @@
 -- Invariant: the cells left, read from the place reached and stored after those so far, give the whole result. Measure: the cells left.
 -- Assumes nothing.
 use Prim.Native.Nat.{◌-◌}
-use native.Mathlib.Omega.{arith}
-use mathlib.Core.Path.{◌≡◌, ◌∙◌, sym}
-use borrow.Author.Rules.{rules}
+use mathlib.Core.Path.{◌≡◌}
 use Rattle.format.specs.Formats.{codes}
-use Rattle.packed.specs.Cells.{cells_from, cells_as}
-use Rattle.packed.proofs.CellTurns.{coded-wrong, coded-held, from_start, from_wrong, from_next, from_end}
+use Rattle.packed.specs.Cells.{cells_from}
 use Rattle.packed.proofs.cells.read_cells.Given as goal
 
 abbrev pub invariant-loop-i : goal.invariant-loop-i

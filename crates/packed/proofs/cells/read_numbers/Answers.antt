@@ -2,8 +2,6 @@
 -- Assumes nothing.
 use native.Mathlib.Omega.{arith}
 use mathlib.Core.Path.{◌∙◌, sym}
-use borrow.Author.Rules.{rules}
-use borrow.Author.Tests.{not-true, not-false}
 use Rattle.packed.specs.Cells.{coded_as}
 use Rattle.packed.proofs.CellSteps.{cell-refused, cell-unknown, cell-known, by-refused, by-other, by-same}
 use Rattle.packed.proofs.cells.read_numbers.Goals as goal

@@ -1,16 +1,10 @@
 -- Invariant: the numbers left have room, and written from the place reached they complete the whole. Measure: the numbers left.
 -- Assumes nothing.
-use Prim.Native.Nat.{ℕ, ◌+◌, ◌-◌, ◌≤◌}
 use native.Mathlib.Omega.{arith}
 use mathlib.Core.Path.{◌≡◌, ◌∙◌, ap, refl, sym}
-use mathlib.Core.List.{List}
-use mathlib.Core.Logic.{⊎_elim}
 use lib.ListN.{length, get_or, length-append}
-use borrow.Author.Rules.{rules}
-use Rattle.laws.specs.Writing.{Put}
 use Rattle.laws.proofs.Writing.{put-none, put-append, put_as}
 use Rattle.varint.specs.Signs.{folded}
-use Rattle.packed.specs.Layout.{laid_from, laid}
 use Rattle.packed.proofs.Turns.{turned, plain, laid-start, laid_next, laid_end}
 use Rattle.laws.specs.Tests.{choose}
 use lib.Dec.{eqb}
@@ -36,8 +30,8 @@ put_number-at-requires c =
     let v = get_or a.values.now l.i 0 in
     let n : c.if-i-signed.n ≡ choose (eqb l.i a.signed) (folded v) v =
     elim c.if-i-signed.branch [
-      then-i-signed w ↦ turned l.i a.signed (folded v) v w.if-i-signed.true w.fold_sign-n.ensures w.n-is
-    | else-i-signed w ↦ plain l.i a.signed (folded v) v w.if-i-signed.false w.n-is
+      | then-i-signed w ↦ turned l.i a.signed (folded v) v w.if-i-signed.true w.fold_sign-n.ensures w.n-is
+      | else-i-signed w ↦ plain l.i a.signed (folded v) v w.if-i-signed.false w.n-is
     ] in
     let e = laid_next a.count a.signed l.i a.values.now c.loop-i-test.true n in
     omega (arith, simp length-append at (ap length e), l.invariant.0, l.invariant.1.0)
@@ -53,8 +47,8 @@ loop-i-preserved c =
     let v = get_or a.values.now l.i 0 in
     let n : c.if-i-signed.n ≡ choose (eqb l.i a.signed) (folded v) v =
     elim c.if-i-signed.branch [
-      then-i-signed w ↦ turned l.i a.signed (folded v) v w.if-i-signed.true w.fold_sign-n.ensures w.n-is
-    | else-i-signed w ↦ plain l.i a.signed (folded v) v w.if-i-signed.false w.n-is
+      | then-i-signed w ↦ turned l.i a.signed (folded v) v w.if-i-signed.true w.fold_sign-n.ensures w.n-is
+      | else-i-signed w ↦ plain l.i a.signed (folded v) v w.if-i-signed.false w.n-is
     ] in
     let e = laid_next a.count a.signed l.i a.values.now c.loop-i-test.true n in
     let w = f.ensures in (

@@ -1,17 +1,11 @@
 -- Invariant: the numbers left have room, and written from the place reached they complete the whole. Measure: the numbers left.
 -- Assumes nothing.
 use Prim.Native.Nat.{ℕ, ◌+◌, ◌-◌, ◌≤◌}
-use native.Mathlib.Omega.{arith}
-use mathlib.Core.Path.{◌≡◌, ◌∙◌, ap, refl, sym}
+use mathlib.Core.Path.{◌≡◌}
 use mathlib.Core.List.{List}
-use mathlib.Core.Logic.{⊎_elim}
-use lib.ListN.{length, get_or, length-append}
-use borrow.Author.Rules.{rules}
+use lib.ListN.{length}
 use Rattle.laws.specs.Writing.{Put}
-use Rattle.laws.proofs.Writing.{put-none, put-append, put_as}
-use Rattle.varint.specs.Signs.{folded}
 use Rattle.packed.specs.Layout.{laid_from, laid}
-use Rattle.packed.proofs.Turns.{turned, plain, laid-start, laid_next, laid_end}
 use Rattle.packed.proofs.rows.put_row.Given as goal
 
 abbrev pub invariant-loop-i : goal.invariant-loop-i

@@ -1,13 +1,10 @@
 -- Invariant: the numbers left, read from the place reached and stored after the values so far, give the whole result. Measure: the numbers left.
 -- Assumes nothing.
-use Prim.Native.Nat.{◌-◌}
 use native.Mathlib.Omega.{arith}
 use mathlib.Core.Path.{◌≡◌, ◌∙◌, refl, sym}
-use mathlib.Core.Logic.{⊎_elim}
-use lib.ListN.{length, length-set}
-use borrow.Author.Rules.{rules}
+use lib.ListN.{length-set}
 use Rattle.varint.specs.Signs.{unfolded}
-use Rattle.packed.specs.Layout.{laid_read_from, laid_read, parsed_as}
+use Rattle.packed.specs.Layout.{parsed_as}
 use Rattle.packed.proofs.Turns.{turned, plain, read-start, read-refused, read_next, read-end}
 use Rattle.laws.specs.Tests.{choose}
 use lib.Dec.{eqb}
@@ -43,8 +40,8 @@ loop-i-preserved c =
     let v = c.in-Found.value in
     let w : c.if-i-signed.v ≡ choose (eqb l.i a.signed) (unfolded v) v =
     elim c.if-i-signed.branch [
-      then-i-signed w ↦ turned l.i a.signed (unfolded v) v w.if-i-signed.true w.unfold_sign-v.ensures w.v-is
-    | else-i-signed w ↦ plain l.i a.signed (unfolded v) v w.if-i-signed.false w.v-is
+      | then-i-signed w ↦ turned l.i a.signed (unfolded v) v w.if-i-signed.true w.unfold_sign-v.ensures w.v-is
+      | else-i-signed w ↦ plain l.i a.signed (unfolded v) v w.if-i-signed.false w.v-is
     ] in
     let f = read_next a.count a.signed a.s.now l.values l.i l.at c.in-Found.value c.in-Found.next c.loop-i-test.true
     (sym c.read_number.ensures ∙ c.in-Found.is) w in

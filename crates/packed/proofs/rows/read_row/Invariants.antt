@@ -1,14 +1,9 @@
 -- Invariant: the numbers left, read from the place reached and stored after the values so far, give the whole result. Measure: the numbers left.
 -- Assumes nothing.
 use Prim.Native.Nat.{◌-◌}
-use native.Mathlib.Omega.{arith}
-use mathlib.Core.Path.{◌≡◌, ◌∙◌, refl, sym}
-use mathlib.Core.Logic.{⊎_elim}
-use lib.ListN.{length, length-set}
-use borrow.Author.Rules.{rules}
-use Rattle.varint.specs.Signs.{unfolded}
-use Rattle.packed.specs.Layout.{laid_read_from, laid_read, parsed_as}
-use Rattle.packed.proofs.Turns.{turned, plain, read-start, read-refused, read_next, read-end}
+use mathlib.Core.Path.{◌≡◌}
+use lib.ListN.{length}
+use Rattle.packed.specs.Layout.{laid_read_from, laid_read}
 use Rattle.packed.proofs.rows.read_row.Given as goal
 
 abbrev pub invariant-loop-i : goal.invariant-loop-i
