@@ -1,6 +1,4 @@
 -- Entries: from one test over the table of formats to the rule at each code, and what its row holds.
 -- Before: the table as it was before 02's longer waits, beside the present one.
--- TestsCodes: a code that is none of a table's, or none of those with a sign.
 pub mod Entries
 pub mod Before
-mod TestsCodes

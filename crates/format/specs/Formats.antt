@@ -1,6 +1,6 @@
 -- The fields of each code, as 01, "Instructions", lists them, with DDD last.
 -- Assumes nothing.
-use Rattle.std.specs.Prelude.{ℕ, suc, Bool, true, false, List, [], ◌∷◌, eqb, length, get_or}
+use Rattle.std.specs.Prelude.{ℕ, suc, Bool, false, List, [], ◌∷◌, eqb, length, get_or}
 use Rattle.laws.specs.Tests.{choose, either}
 use Rattle.units.specs.Limits.{step_limit, delay_limit, delay_limit_before, loop_limit}
 use Rattle.fields.specs.Kinds.{is_signed}

@@ -19,7 +19,7 @@ use Rattle.fields.specs.Names.{listed, list_of}
 use Rattle.fields.specs.Rows.{all_valid}
 use Rattle.instruction.specs.Codes.{code_of}
 use Rattle.format.specs.Formats.{fields_in, fields_of, known_in, known}
-use Rattle.instruction.specs.Numbers.{numbers_with, numbers_of, cam_of, with_next, cell_with, cell_of, byte_of, same_numbers}
+use Rattle.instruction.specs.Numbers.{numbers_with, numbers_of, cam_of, with_next, cell_with, cell_of, same_numbers}
 use Rattle.instruction.specs.Soundness.{canonical, cell_sound}
 use Rattle.instruction.specs.declared.Instruction.{Instruction}
 use Rattle.instruction.specs.declared.Instruction.TheVariants.{Null, IndexedRamp, IndexedRampFine, FreeRamp, FreeRampFine, Indexed, IndexedFine, Free, FreeFine, ZeroSearch, DelayedStop, CamSetting, OutputSetting, CounterReset, OpeningLoop, ClosingLoop, ConditionalJump, TimeDelay, Recovery, CurrentSetting}

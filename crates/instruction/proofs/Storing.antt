@@ -17,7 +17,7 @@ use Rattle.fields.specs.Rows.{all_valid}
 use Rattle.fields.specs.declared.kinds.Kind.TheVariants.{Next}
 use Rattle.instruction.specs.Codes.{code_of}
 use Rattle.format.specs.Formats.{Entry, position, formats, fields_in, fields_of, known}
-use Rattle.instruction.specs.Numbers.{six, numbers_with, numbers_of, byte_of, bit_of, is_one, with_next, cam_of, cell_with, cell_of}
+use Rattle.instruction.specs.Numbers.{six, numbers_with, byte_of, is_one, with_next, cam_of, cell_with, cell_of}
 use Rattle.instruction.specs.Soundness.{canonical, cell_sound}
 use Rattle.instruction.specs.declared.Instruction.{Instruction}
 use Rattle.instruction.specs.declared.Instruction.TheVariants.{Null, IndexedRamp, IndexedRampFine, FreeRamp, FreeRampFine, Indexed, IndexedFine, Free, FreeFine, ZeroSearch, DelayedStop, CamSetting, OutputSetting, CounterReset, OpeningLoop, ClosingLoop, ConditionalJump, TimeDelay, Recovery, CurrentSetting}

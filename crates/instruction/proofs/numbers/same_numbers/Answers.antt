@@ -1,13 +1,10 @@
 -- `numbers::same_numbers` meets its contract. Invariant: what is found so far, joined to what the numbers left say, is the whole.
 -- Measure: the numbers left. Assumes nothing.
-use Prim.Native.Nat.{◌-◌, ◌≤◌, ◌<◌}
+use Prim.Native.Nat.{◌≤◌, ◌<◌}
 use native.Mathlib.Omega.{arith}
-use mathlib.Core.Path.{◌≡◌, sym, ◌∙◌}
-use lib.ListN.{length, drop}
-use borrow.Author.Rules.{rules}
-use Rattle.laws.specs.Tests.{both}
+use mathlib.Core.Path.{sym, ◌∙◌}
+use lib.ListN.{length}
 use Rattle.laws.proofs.Joins.{both-start}
-use Rattle.instruction.specs.Numbers.{same_numbers}
 use Rattle.instruction.proofs.Numbering.{same_turn, same_end}
 use Rattle.instruction.proofs.numbers.same_numbers.Goals as goal
 
