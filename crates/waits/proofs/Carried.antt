@@ -2,21 +2,21 @@
 -- Assumes nothing.
 use Prim.Native.Nat.{ℕ, ◌+◌, ◌-◌}
 use mathlib.Core.Path.{◌≡◌, refl, sym, ap, ◌∙◌}
-use mathlib.Core.Bool.{false}
-use mathlib.Core.List.{List, [], ◌∷◌}
+use mathlib.Core.Bool.{Bool, false}
+use mathlib.Core.List.{List}
 use lib.ListN.{get_or}
-use denote.Enum.Declared.{tag_of}
-use types.Run.{OneOf, miss}
+use Rattle.units.specs.declared.CellAddress.{CellAddress}
+use Rattle.units.specs.declared.position.Position.{Position}
 use Rattle.instruction.specs.declared.Cell.{Cell}
 use Rattle.machine.specs.Record.{cell_at, null_cell, idle, with_running}
 use Rattle.machine.specs.Milliseconds.{present, held, millisecond_at, millisecond}
+use Rattle.machine.specs.declared.Cam.{Cam}
 use Rattle.machine.specs.declared.Running.{Running}
 use Rattle.machine.specs.declared.State.{State}
 use Rattle.machine.proofs.Places.{place-present}
 use Rattle.changes.specs.Changes.{is_more, running_after, part_set, changed_by, next_change}
 use Rattle.changes.specs.declared.Change.{Change}
 use Rattle.changes.specs.declared.Change.TheVariants as change
-use Rattle.changes.specs.contracts.Change.{the_type}
 use Rattle.changes.proofs.Changing.{millisecond-changed}
 use Rattle.waits.specs.Waiting.{by_value}
 use Rattle.waits.proofs.Waits.{Waiting, Going, waiting-step}
@@ -52,22 +52,22 @@ pub changed-step :
     x ≡ next_change d (get_or cells i null_cell) → by_value x ≡ false → r ≡ changed_by x d → Waiting cells limit s r (n + 1)
 changed-step {cells} {d = d} {x = x} g e q b z = waiting-step g (z ∙ changed-placed cells d e q g.busy (plain-in-place x b))
 
--- the changes that the wait's last arm takes, by their places in the list of changes: of those in place, they set no other part
-unfoldable pub alone : List ℕ
-alone = 0 ∷ 1 ∷ 5 ∷ 6 ∷ 7 ∷ []
-
-part-alone : (x : Change) (s : State) → by_value x ≡ false → OneOf alone (tag_of the_type x) → s ≡ part_set x s
-unfolding alone
-part-alone change.Nothing s b t = refl
-part-alone (change.Advance a n) s b t = refl
-part-alone (change.Output a k v) s b t = absurd (miss alone 2 tt t)
-part-alone (change.Cam a y) s b t = absurd (miss alone 3 tt t)
-part-alone (change.Position a y) s b t = absurd (miss alone 4 tt t)
-part-alone (change.Delay m n) s b t = refl
-part-alone (change.Fault code) s b t = cc
-part-alone change.More s b t = refl
+-- the changes that the wait's last arm takes: in place, and no output, cam or position. They set no other part
+part-alone :
+    (x : Change) (s : State) → by_value x ≡ false → ((a : CellAddress) (k : ℕ) (v : Bool) → x ≡ change.Output a k v → ⊥) →
+    ((a : CellAddress) (y : Cam) → x ≡ change.Cam a y → ⊥) → ((a : CellAddress) (y : Position) → x ≡ change.Position a y → ⊥) → s ≡ part_set x s
+part-alone change.Nothing s b o m p = refl
+part-alone (change.Advance a n) s b o m p = refl
+part-alone (change.Output a k v) s b o m p = absurd (o a k v refl)
+part-alone (change.Cam a y) s b o m p = absurd (m a y refl)
+part-alone (change.Position a y) s b o m p = absurd (p a y refl)
+part-alone (change.Delay t n) s b o m p = refl
+part-alone (change.Fault code) s b o m p = cc
+part-alone change.More s b o m p = refl
 
 pub carried-alone :
-    (x : Change) {r : Running} (s : State) → by_value x ≡ false → OneOf alone (tag_of the_type x) → r ≡ running_after x s.running →
-    with_running s r ≡ changed_by x s
-carried-alone x {r} s b t q = ap (λ (d : State). with_running d r) (part-alone x s b t) ∙ ap (with_running (part_set x s)) q
+    (x : Change) {r : Running} (s : State) → by_value x ≡ false → ((a : CellAddress) (k : ℕ) (v : Bool) → x ≡ change.Output a k v → ⊥) →
+    ((a : CellAddress) (y : Cam) → x ≡ change.Cam a y → ⊥) → ((a : CellAddress) (y : Position) → x ≡ change.Position a y → ⊥) →
+    r ≡ running_after x s.running → with_running s r ≡ changed_by x s
+carried-alone x {r} s b o m p q =
+    ap (λ (d : State). with_running d r) (part-alone x s b o m p) ∙ ap (with_running (part_set x s)) q

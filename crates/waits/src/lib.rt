@@ -73,6 +73,7 @@ pub fn wait(cells: [Cell; 131], state: State, budget: Milliseconds) -> Ran
 }
 
 // Idle, moving, or nothing left of the budget.
+#[tactic(auto, unfolding(laws::specs::Tests::either, machine::specs::Waiting::settled))]
 fn is_over(state: State, left: u32) -> bool
     ensures { result ≡ either (settled state) (eqb left 0) }
 {
@@ -98,6 +99,7 @@ fn ended(given: u32, state: State) -> Ran
     }
 }
 
+#[tactic(auto, unfolding(laws::specs::Tests::choose, machine::specs::Waiting::end_at))]
 fn end_at(state: State) -> End
     ensures { result ≡ end_at state }
 {
