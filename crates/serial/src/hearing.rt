@@ -70,6 +70,7 @@ pub fn header_in(s: &[u8]) -> Header
     }
 }
 
+#[tactic(auto, unfolding(machine::specs::Strings::to_every))]
 pub fn to_every(header: Header) -> bool
     ensures { result ≡ to_every header }
 {
@@ -137,6 +138,7 @@ pub fn judged(length: usize, code: u16, s: &[u8]) -> Command
 }
 
 // A PS is wrong while input EE is on.
+#[tactic(auto, unfolding(machine::specs::Strings::allowed, machine::specs::Strings::is_start, laws::specs::Tests::choose, laws::specs::Tests::both))]
 pub fn allowed(command: Command, state: State) -> Command
     ensures { result ≡ allowed_of command state }
 {

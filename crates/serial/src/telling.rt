@@ -38,6 +38,7 @@ fn answered(buf: &mut [u8], header: Header, command: Command, state: State, cell
 }
 
 // The record with its next state, and with the cell that a WN stores.
+#[tactic(auto, unfolding(machine::specs::Acting::cells_after, machine::specs::Record::stored_at, machine::specs::Commands::placed, machine::specs::Soundness::is_cell, laws::specs::Tests::both))]
 fn kept(mut machine: Machine, command: Command, state: State) -> Machine
     requires { placed command ≡ true }
     ensures { result ≡ record { state = state; cells = cells_after command machine.cells } }
