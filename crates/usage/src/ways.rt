@@ -19,6 +19,7 @@ pub fn has(used: CellMap, at: usize) -> bool
 }
 
 // Whether a cell leads to a place. To no cell there is no way that it could lack.
+#[tactic(auto, unfolding(crate::specs::Updating::leads_to, laws::specs::Tests::either))]
 fn leads_to(cell: Cell, k: usize) -> bool
     ensures { result ≡ leads_to cell k }
 {
@@ -29,6 +30,7 @@ fn leads_to(cell: Cell, k: usize) -> bool
 }
 
 // Whether a way of the old cell is none of the new.
+#[tactic(auto, unfolding(crate::specs::Updating::loses, laws::specs::Tests::both))]
 pub fn loses(old: Cell, new: Cell) -> bool
     ensures { result ≡ loses_way old new }
 {
