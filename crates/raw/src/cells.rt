@@ -18,6 +18,7 @@ pub struct Made {
 }
 
 // A frequency of 21 or 22 is held as its place in the table, so one that is not there cannot be.
+#[tactic(auto, unfolding(crate::specs::Cells::fits_hertz))]
 fn is_hertz(v: u64) -> bool
     ensures { result ≡ fits_hertz v }
 {
@@ -26,6 +27,7 @@ fn is_hertz(v: u64) -> bool
 }
 
 // Digits: a bit, a frequency of the table, or a byte.
+#[tactic(auto, unfolding(crate::specs::Cells::fits_fixed, laws::specs::Tests::choose))]
 fn is_fixed(width: usize, v: u64) -> bool
     ensures { result ≡ fits_fixed width v }
 {
@@ -39,6 +41,7 @@ fn is_fixed(width: usize, v: u64) -> bool
 }
 
 // nnn: a 05 holds its steps with a sign, a 61 its count in 16 bits, a 65 its delay in 32.
+#[tactic(auto, unfolding(crate::specs::Cells::fits_count, laws::specs::Tests::choose))]
 fn is_count(code: u64, v: u64) -> bool
     ensures { result ≡ fits_count code v }
 {
@@ -52,6 +55,7 @@ fn is_count(code: u64, v: u64) -> bool
 }
 
 // Whether a cell of a code can hold an integer as a parameter of a kind.
+#[tactic(auto, unfolding(crate::specs::Cells::fits_kind, laws::specs::Tests::either))]
 fn fits(code: u64, kind: Kind, v: u64) -> bool
     ensures { result ≡ fits_kind code kind v }
 {
@@ -68,6 +72,7 @@ fn fits(code: u64, kind: Kind, v: u64) -> bool
 }
 
 // 0 for the first of two values, which is 1, and 1 for the second.
+#[tactic(auto, unfolding(crate::specs::Cells::second_of, laws::specs::Tests::choose))]
 fn second(v: u64) -> u32
     ensures { result ≡ second_of v }
 {
@@ -78,6 +83,7 @@ fn second(v: u64) -> u32
 }
 
 // A parameter as the number that a cell is made of.
+#[tactic(auto, unfolding(crate::specs::Cells::number_as))]
 fn number(kind: Kind, v: u64) -> u32
     ensures { result ≡ number_as kind v }
 {
@@ -93,6 +99,7 @@ fn number(kind: Kind, v: u64) -> u32
     }
 }
 
+#[tactic(auto, unfolding(crate::specs::Cells::fits_row, laws::specs::Tests::both))]
 fn all_fit(row: Row, n: [u64; 7]) -> bool
     ensures { result ≡ fits_row row n }
 {
@@ -113,6 +120,7 @@ fn all_fit(row: Row, n: [u64; 7]) -> bool
 
 // The format's row has the kind Next behind the code's own fields, and the numbers there are 0; of
 // a 69 the first of them is read as its next.
+#[tactic(auto, unfolding(crate::specs::Cells::numbers_in))]
 fn numbers_in(row: Row, n: [u64; 7]) -> [u32; 6]
     ensures { result ≡ numbers_in row n }
 {
@@ -134,6 +142,7 @@ fn numbers_in(row: Row, n: [u64; 7]) -> [u32; 6]
 
 // The cell of numbers that fit, also in a form that is never stored: a 57 with a position for V=0,
 // and a 69 with a next.
+#[tactic(auto, unfolding(crate::specs::Cells::cell_holding, laws::specs::Tests::choose))]
 fn holding(code: u64, v: [u32; 6]) -> Cell
     ensures { result ≡ cell_holding code v }
 {
@@ -155,6 +164,7 @@ fn holding(code: u64, v: [u32; 6]) -> Cell
     numbers::cell_of(integers::low(code), &v)
 }
 
+#[tactic(auto, unfolding(crate::specs::Cells::made_of, laws::specs::Tests::both))]
 pub fn cell(n: [u64; 7]) -> Made
     ensures { result ≡ made_of n }
 {

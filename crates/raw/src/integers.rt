@@ -10,6 +10,7 @@ pub fn low(v: u64) -> u32
 }
 
 // The integer that 32 bits in two's complement stand for.
+#[tactic(auto, unfolding(crate::specs::Integers::extended, laws::specs::Tests::choose))]
 pub fn extended(bits: u32) -> u64
     ensures { result ≡ extended_of bits }
 {
@@ -20,6 +21,7 @@ pub fn extended(bits: u32) -> u64
 }
 
 // Whether 32 bits in two's complement hold an integer.
+#[tactic(auto, unfolding(crate::specs::Integers::fits_signed, laws::specs::Tests::either))]
 pub fn is_signed(v: u64) -> bool
     ensures { result ≡ fits_signed v }
 {

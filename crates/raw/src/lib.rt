@@ -24,6 +24,7 @@ pub struct Written {
 }
 
 // What remains of an interrupted cell is one of milliseconds where the cell holds a 65.
+#[tactic(auto, unfolding(crate::specs::Writes::put_together, crate::specs::Writes::written_with, laws::specs::Tests::both))]
 fn put_together(cells: [Cell; 131], state: State, counts: Counts, fits: bool) -> Written
     ensures { result ≡ put_together cells state counts fits }
 {
@@ -37,6 +38,7 @@ fn put_together(cells: [Cell; 131], state: State, counts: Counts, fits: bool) ->
 }
 
 // A field, by its place in the list of names, set to an integer.
+#[tactic(auto, unfolding(crate::specs::Writes::field_written))]
 pub fn write_field(machine: Machine, place: usize, value: u64) -> Written
     ensures { result ≡ field_written machine place value }
 {
@@ -48,6 +50,7 @@ pub fn write_field(machine: Machine, place: usize, value: u64) -> Written
     put_together(cells, state, counts, fits)
 }
 
+#[tactic(auto, unfolding(crate::specs::Writes::output_set, laws::specs::Tests::choose))]
 fn with_output(mut state: State, output: usize, on: bool) -> State
     ensures { result ≡ output_set state output on }
 {
@@ -59,6 +62,7 @@ fn with_output(mut state: State, output: usize, on: bool) -> State
 }
 
 // An output, by its place, set to 0 or 1.
+#[tactic(auto, unfolding(crate::specs::Writes::output_written, laws::specs::Tests::both))]
 pub fn write_output(machine: Machine, output: usize, value: u32) -> Written
     ensures { result ≡ output_written machine output value }
 {
@@ -68,6 +72,7 @@ pub fn write_output(machine: Machine, output: usize, value: u32) -> Written
     put_together(cells, state, remaining::counts_of(machine.state), fits)
 }
 
+#[tactic(auto, unfolding(crate::specs::Writes::cell_set, laws::specs::Tests::choose))]
 fn with_cell(mut cells: [Cell; 131], place: usize, cell: Cell) -> [Cell; 131]
     ensures { result ≡ cell_set cells place cell }
 {
@@ -79,6 +84,7 @@ fn with_cell(mut cells: [Cell; 131], place: usize, cell: Cell) -> [Cell; 131]
 }
 
 // A cell, by its place, set to a code, its parameters and its next.
+#[tactic(auto, unfolding(crate::specs::Writes::cell_written, laws::specs::Tests::both))]
 pub fn write_cell(machine: Machine, place: usize, numbers: [u64; 7]) -> Written
     ensures { result ≡ cell_written machine place numbers }
 {

@@ -26,6 +26,7 @@ pub enum Field {
 }
 
 // The field at a place of the list; past its end the last.
+#[tactic(auto, unfolding(crate::specs::Fields::field_at, crate::specs::Fields::field_in, crate::specs::Fields::fields, laws::specs::Tests::choose))]
 pub fn field_at(place: usize) -> Field
     ensures { result ≡ field_at place }
 {

@@ -33,6 +33,7 @@ pub struct Count {
     pub remaining: Remaining,
 }
 
+#[tactic(auto, unfolding(crate::specs::Counts::integer_of))]
 fn integer(remaining: Remaining) -> u64
     ensures { result ≡ integer_of remaining }
 {
@@ -43,6 +44,7 @@ fn integer(remaining: Remaining) -> u64
     }
 }
 
+#[tactic(auto, unfolding(crate::specs::Counts::counts_of))]
 pub fn counts_of(state: State) -> Counts
     ensures { result ≡ counts_of state }
 {
@@ -70,6 +72,7 @@ fn in_delay(phase: Phase) -> bool
     }
 }
 
+#[tactic(auto, unfolding(machine::specs::Soundness::is_cell, laws::specs::Tests::both))]
 fn is_cell(address: CellAddress) -> bool
     ensures { result ≡ is_cell address }
 {
@@ -86,6 +89,7 @@ fn code_at(cells: [Cell; 131], place: usize) -> u8
 }
 
 // Whether there is a cell at the address and it holds a 65.
+#[tactic(auto, unfolding(crate::specs::Counts::holds_delay, machine::specs::Soundness::is_delay, machine::specs::Soundness::is_cell, machine::specs::Record::cell_at, laws::specs::Tests::both))]
 pub fn holds_delay(cells: [Cell; 131], address: CellAddress) -> bool
     ensures { result ≡ holds_delay cells address }
 {
@@ -96,6 +100,7 @@ pub fn holds_delay(cells: [Cell; 131], address: CellAddress) -> bool
 }
 
 // The count of a number: milliseconds where it is timed, else steps.
+#[tactic(auto, unfolding(crate::specs::Counts::count_of, laws::specs::Tests::choose))]
 fn count_of(v: u64, timed: bool) -> Count
     ensures { result ≡ count_of timed v }
 {
@@ -156,6 +161,7 @@ fn with_counts(mut state: State, from: Remaining, left: Remaining) -> State
 
 // Puts both counts into their units. What remains of the program under way is one of milliseconds
 // where the phase is delay.
+#[tactic(auto, unfolding(crate::specs::Counts::counted, laws::specs::Tests::both))]
 pub fn in_units(state: State, counts: Counts, timed: bool) -> Counted
     ensures { result ≡ counted_of timed state counts }
 {

@@ -23,6 +23,7 @@ pub struct Kept {
     pub inputs: [bool; 11],
 }
 
+#[tactic(auto, unfolding(machine::specs::Commands::resolution_at, laws::specs::Tests::choose))]
 fn resolution_at(place: u64) -> Resolution
     ensures { result ≡ resolution_at place }
 {
@@ -38,6 +39,7 @@ fn resolution_at(place: u64) -> Resolution
     }
 }
 
+#[tactic(auto, unfolding(crate::specs::Fields::phase_at, laws::specs::Tests::choose))]
 fn phase_at(place: u64) -> Phase
     ensures { result ≡ phase_at place }
 {
@@ -52,6 +54,7 @@ fn phase_at(place: u64) -> Phase
     }
 }
 
+#[tactic(auto, unfolding(crate::specs::Fields::kept_of))]
 pub fn kept_of(v: u64) -> Kept
     ensures { result ≡ kept_of v }
 {
@@ -68,6 +71,7 @@ pub fn kept_of(v: u64) -> Kept
 }
 
 // Whether a field can hold an integer; of a remaining count its unit decides.
+#[tactic(auto, unfolding(crate::specs::Fields::fits_field))]
 pub fn fits(field: Field, v: u64) -> bool
     ensures { result ≡ fits_field field v }
 {
@@ -122,6 +126,7 @@ fn with_phase(old: Running, phase: Phase) -> Running
 }
 
 // A field of the state set. A remaining count waits until the record is put together.
+#[tactic(auto, unfolding(crate::specs::Fields::with_field))]
 pub fn with_field(mut state: State, field: Field, kept: Kept) -> State
     ensures { result ≡ with_field state field kept }
 {
@@ -189,6 +194,7 @@ pub fn with_field(mut state: State, field: Field, kept: Kept) -> State
 }
 
 // Both remaining counts with a field set.
+#[tactic(auto, unfolding(crate::specs::Fields::counts_with))]
 pub fn counts_with(counts: Counts, field: Field, v: u64) -> Counts
     ensures { result ≡ counts_with counts field v }
 {
