@@ -49,6 +49,7 @@ pub fn emergency_slowed(state: State) -> State
 }
 
 // A cell not yet taken; a 69 leaves the record as it is.
+#[tactic(auto, unfolding(laws::specs::Tests::choose, machine::specs::Stopping::emergency_in, machine::specs::Taking::is_recovery))]
 fn waiting_interrupted(state: State, cell: Cell) -> State
     ensures { result ≡ emergency_in Waiting state cell }
 {
@@ -61,6 +62,7 @@ fn waiting_interrupted(state: State, cell: Cell) -> State
 }
 
 // A run in its first phase; with a ramp it first slows until halted.
+#[tactic(auto, unfolding(laws::specs::Tests::choose, machine::specs::Stopping::emergency_in))]
 fn run_interrupted(state: State, cell: Cell) -> State
     ensures { result ≡ emergency_in Run state cell }
 {
@@ -72,6 +74,7 @@ fn run_interrupted(state: State, cell: Cell) -> State
     emergency_slowed(state)
 }
 
+#[tactic(auto, unfolding(machine::specs::Stopping::emergency_in))]
 fn busy_interrupted(phase: Phase, state: State, cell: Cell) -> State
     ensures { result ≡ emergency_in phase state cell }
 {
@@ -87,6 +90,7 @@ fn busy_interrupted(phase: Phase, state: State, cell: Cell) -> State
 }
 
 // The emergency stop: a busy program ends, at once or after slowing.
+#[tactic(auto, unfolding(laws::specs::Tests::choose, machine::specs::Stopping::emergency_stop_at))]
 pub fn emergency_stop(state: State, cell: Cell) -> State
     ensures { result ≡ emergency_stop_at state cell }
 {

@@ -33,6 +33,7 @@ pub fn braking_steps(profile: Profile) -> Steps
 }
 
 // A free run goes on to the next cell; with a ramp it first slows until halted.
+#[tactic(auto, unfolding(laws::specs::Tests::choose, machine::specs::Stopping::free_run_stop_of))]
 fn free_stopped(state: State, profile: Profile, next: CellAddress) -> State
     ensures { result ≡ free_run_stop_of FreeRun state profile next }
 {
@@ -43,6 +44,7 @@ fn free_stopped(state: State, profile: Profile, next: CellAddress) -> State
 }
 
 // A 05 brakes, if it has been at speed.
+#[tactic(auto, unfolding(laws::specs::Tests::choose, machine::specs::Stopping::free_run_stop_of))]
 fn delayed_stopped(state: State, profile: Profile, next: CellAddress) -> State
     requires { steps_within profile.steps ≡ true }
     ensures { result ≡ free_run_stop_of DelayedStopRun state profile next }
@@ -54,6 +56,7 @@ fn delayed_stopped(state: State, profile: Profile, next: CellAddress) -> State
     state
 }
 
+#[tactic(auto, unfolding(machine::specs::Stopping::free_run_stop_of))]
 fn run_stopped(state: State, profile: Profile, next: CellAddress) -> State
     requires { steps_within profile.steps ≡ true }
     ensures { result ≡ free_run_stop_of profile.motion state profile next }
@@ -69,6 +72,7 @@ fn run_stopped(state: State, profile: Profile, next: CellAddress) -> State
 }
 
 // The free run stop: only a run in its first phase takes notice.
+#[tactic(auto, unfolding(machine::specs::Stopping::free_run_stop_in))]
 pub fn free_run_stop(state: State, profile: Profile, next: CellAddress) -> State
     requires { steps_within profile.steps ≡ true }
     ensures { result ≡ free_run_stop_in state.running.phase state profile next }

@@ -10,6 +10,7 @@ use machine::{Phase, Remaining, State};
 use progress::{advanced, in_phase};
 use units::CellAddress;
 
+#[tactic(auto, unfolding(laws::specs::Tests::choose, machine::specs::Stopping::px_in_run))]
 fn search_seen(px: bool, seen: State) -> State
     ensures { result ≡ px_in_run SearchRun px seen }
 {
@@ -19,6 +20,7 @@ fn search_seen(px: bool, seen: State) -> State
     seen
 }
 
+#[tactic(auto, unfolding(machine::specs::Stopping::px_in_run))]
 fn run_seen(motion: Motion, px: bool, seen: State) -> State
     ensures { result ≡ px_in_run motion px seen }
 {
@@ -31,6 +33,7 @@ fn run_seen(motion: Motion, px: bool, seen: State) -> State
     }
 }
 
+#[tactic(auto, unfolding(laws::specs::Tests::choose))]
 fn back_seen(px: bool, seen: State, next: CellAddress) -> State
     ensures { result ≡ choose px seen (advanced_of seen next) }
 {
@@ -41,6 +44,7 @@ fn back_seen(px: bool, seen: State, next: CellAddress) -> State
 }
 
 // PX on ends the fast part of a zero search, PX off its way back.
+#[tactic(auto, unfolding(machine::specs::Stopping::px_seen_in))]
 pub fn px_seen(px: bool, seen: State, profile: Profile, next: CellAddress) -> State
     ensures { result ≡ px_seen_in seen.running.phase px seen profile next }
 {
