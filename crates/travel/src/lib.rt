@@ -27,6 +27,7 @@ pub struct Travelled {
 }
 
 // Whether a step to a position meets the cam.
+#[tactic(auto, unfolding(crate::specs::Plain::meets, laws::specs::Tests::both))]
 fn meets(cam: Cam, position: Position) -> bool
     ensures { result ≡ meets_of cam position }
 {
@@ -34,6 +35,7 @@ fn meets(cam: Cam, position: Position) -> bool
 }
 
 // Whether one step remains.
+#[tactic(auto, unfolding(crate::specs::Plain::is_last))]
 fn is_last(remaining: Remaining) -> bool
     ensures { result ≡ is_last remaining }
 {
@@ -48,6 +50,7 @@ fn is_last(remaining: Remaining) -> bool
 }
 
 // One step less of what remains, if steps are counted.
+#[tactic(auto, unfolding(crate::specs::Plain::lessened))]
 fn lessened(remaining: Remaining) -> Remaining
     ensures { result ≡ lessened_of remaining }
 {
@@ -62,6 +65,7 @@ fn lessened(remaining: Remaining) -> Remaining
 }
 
 // The state with another position and another rest.
+#[tactic(auto, unfolding(crate::specs::Plain::placed))]
 fn placed(mut state: State, position: Position, remaining: Remaining) -> State
     ensures { result ≡ placed_of state position remaining }
 {
