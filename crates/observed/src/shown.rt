@@ -7,6 +7,7 @@ ghost use Rattle.observed.specs.Shown.{pair_text, hex_text};
 use lines::gathering::{gather, least};
 
 // 33 to 126, except the backslash.
+#[tactic(auto, unfolding(crate::specs::Shown::is_plain, laws::specs::Tests::both))]
 fn is_plain(byte: u8) -> bool
     ensures { result ≡ is_plain byte }
 {
@@ -20,6 +21,7 @@ fn is_plain(byte: u8) -> bool
 }
 
 // A digit below 16, in lower case.
+#[tactic(auto, unfolding(crate::specs::Shown::digit, laws::specs::Tests::choose))]
 pub fn digit_of(value: u8) -> u8
     requires { value < 16 }
     ensures { result ≡ digit value }

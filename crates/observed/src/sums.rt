@@ -10,6 +10,7 @@ pub struct Sum {
 }
 
 impl Sum {
+    #[tactic(auto, unfolding(crate::specs::Sums::none))]
     pub fn new() -> Sum
         ensures { result ≡ none }
     {
@@ -17,6 +18,7 @@ impl Sum {
     }
 
     // With one more byte.
+    #[tactic(auto, unfolding(crate::specs::Sums::with_byte, crate::specs::Sums::counted))]
     fn with(self, byte: u8) -> Sum
         ensures { result ≡ with_byte self byte }
     {

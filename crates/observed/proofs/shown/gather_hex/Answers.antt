@@ -1,0 +1,27 @@
+-- Invariant: the bytes passed are gathered as digits. Measure: the bytes left.
+-- Assumes nothing.
+use Rattle.std.proofs.Common.{◌≡◌, ℕ, ◌-◌, ◌≤◌, length, take, sym, ap, ◌∙◌, arith}
+use lib.Seq.{take-length}
+use Rattle.lines.specs.Gathering.{Gathered}
+use Rattle.lines.proofs.Pieces.{gathered-then, gathered-length}
+use Rattle.observed.specs.Shown.{hex_text}
+use Rattle.observed.proofs.Texts.{gathered-as, gathered_none, hex-next}
+use Rattle.observed.proofs.shown.gather_hex.Goals as goal
+
+pub loop-i-init : goal.loop-i-init
+unfolding hex_text
+loop-i-init c = (omega arith, gathered_none _ _ _ c.least-next.ensures)
+
+pub loop-i-preserved : goal.loop-i-preserved
+loop-i-preserved c = let l = c.loop-i in
+    let a = c.args in
+    (omega arith, gathered-as (hex-next a.bytes.now l.i (omega arith)) (gathered-then l.invariant.1 c.gather_pair-next.ensures))
+
+pub shape_of-line : goal.shape_of-line
+shape_of-line c = gathered-length c.loop-i.invariant.1
+
+pub returns : goal.returns
+returns c = let l = c.loop-i in
+    let a = c.args in
+    let end : l.i ≡ length a.bytes.now = omega arith in
+    gathered-as (ap hex_text (sym (ap (λ (j : ℕ). take j a.bytes.now) end ∙ take-length a.bytes.now))) l.invariant.1
