@@ -1,7 +1,7 @@
 -- Invariant: what is left of the word is in hex as the whole is, and what is left to be put into the text makes the text of the whole.
 -- Measure: the bytes left.
 -- Assumes nothing.
-use Rattle.std.proofs.Common.{◌≡◌, ℕ, suc, ◌+◌, ◌-◌, ◌*◌, ◌≤◌, false, List, [], ◌∷◌, length, get_or, drop, set, sym, refl, ap, ◌∙◌, arith, rules, le-ltb, lt-ltb}
+use Rattle.std.proofs.Common.{◌≡◌, ℕ, suc, ◌+◌, ◌*◌, false, List, [], ◌∷◌, length, get_or, drop, set, sym, ap, ◌∙◌, arith, le-ltb, lt-ltb}
 use lib.Seq.{sets, drop-length}
 use Rattle.laws.specs.Tests.{choose, both}
 use Rattle.laws.specs.Text.{bytes}

@@ -1,6 +1,6 @@
 -- `hex::nibble` meets its contract: each range is a test of the definition.
 -- Assumes nothing.
-use Rattle.std.proofs.Common.{arith, rules, le-leb}
+use Rattle.std.proofs.Common.{arith, le-leb}
 use borrow.Author.Tests.{lt-leb}
 use Rattle.laws.specs.Tests.{choose, both}
 use Rattle.script.specs.Hex.{nibble_of}

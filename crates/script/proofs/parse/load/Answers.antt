@@ -1,6 +1,6 @@
 -- `parse::load` meets its contract, by its word.
 -- Assumes nothing.
-use Rattle.std.proofs.Common.{ℕ, List, sym, ap, ◌∙◌, rules}
+use Rattle.std.proofs.Common.{ℕ, List, sym, ap, ◌∙◌}
 use Rattle.script.specs.Words.{part_at, words_of}
 use Rattle.script.specs.Hex.{decoded_of, text_of}
 use Rattle.script.proofs.Lines.{load-hex, load-good}

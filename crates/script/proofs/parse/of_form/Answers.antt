@@ -1,6 +1,6 @@
 -- `parse::of_form` meets its contract: an image by its letter, the others by how many words the form asks.
 -- Assumes nothing.
-use Rattle.std.proofs.Common.{◌≡◌, sym, ap, ◌∙◌, arith, rules, ne_eqb}
+use Rattle.std.proofs.Common.{◌≡◌, sym, ap, ◌∙◌, arith, ne_eqb}
 use Rattle.script.specs.Words.{part_at, words_of}
 use Rattle.script.specs.Numbers.{unsigned_of}
 use Rattle.script.specs.Calls.{form_of, word_count, on_number, number_call}

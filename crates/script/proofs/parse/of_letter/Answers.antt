@@ -1,6 +1,6 @@
 -- `parse::of_letter` meets its contract: by how many words the form asks, and how many there are.
 -- Assumes nothing.
-use Rattle.std.proofs.Common.{◌≡◌, length, sym, ◌∙◌, arith, rules}
+use Rattle.std.proofs.Common.{◌≡◌, length, sym, ◌∙◌, arith}
 use Rattle.script.specs.Words.{words_of}
 use Rattle.script.specs.Calls.{form_of, word_count}
 use Rattle.script.proofs.Forms.{image-count}

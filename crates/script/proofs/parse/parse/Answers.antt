@@ -1,6 +1,6 @@
 -- `parse::parse` meets its contract: a comment, a raw write, or a line by its letter.
 -- Assumes nothing.
-use Rattle.std.proofs.Common.{ℕ, List, length, get_or, sym, ap, ◌∙◌, arith, rules}
+use Rattle.std.proofs.Common.{ℕ, List, length, get_or, sym, ap, ◌∙◌, arith}
 use Rattle.script.specs.Words.{part_at, words_of}
 use Rattle.script.proofs.Lines.{call-comment, text-comment, numbers-comment, letter-none, letter-first, call_none, text-none, text-write}
 use Rattle.script.proofs.Lines.{call-write, call-letter, text-letter, numbers-write, numbers-letter}

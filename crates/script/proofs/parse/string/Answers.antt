@@ -1,6 +1,6 @@
 -- `parse::string` meets its contract: its bytes, then its buffer.
 -- Assumes nothing.
-use Rattle.std.proofs.Common.{ℕ, List, sym, ap, ◌∙◌, ap₂, rules}
+use Rattle.std.proofs.Common.{ℕ, List, sym, ap, ◌∙◌, ap₂}
 use Rattle.script.specs.Words.{part_at, words_of}
 use Rattle.script.specs.Numbers.{unsigned_of}
 use Rattle.script.specs.Hex.{decoded_of, text_of}
@@ -35,5 +35,8 @@ returns c =
     let text = decode.ensures.text ∙ ap (λ (w : List ℕ). text_of 256 w a.text.now) part.ensures in
     let size = unsigned.ensures ∙ ap unsigned_of part2.ensures in
     let fill = unsigned2.ensures ∙ ap unsigned_of part3.ensures in
-    record { value = c.tell_with.ensures ∙ ap (on_buffer (Tell _)) (c.buffer_of.ensures ∙ ap₂ (buffer_of 256) size fill)
-          ∙ string-buffer ws (bytes ∙ c.in-Bytes.is); text = text }
+    record {
+      value = c.tell_with.ensures ∙ ap (on_buffer (Tell _)) (c.buffer_of.ensures ∙ ap₂ (buffer_of 256) size fill)
+          ∙ string-buffer ws (bytes ∙ c.in-Bytes.is);
+      text = text;
+    }

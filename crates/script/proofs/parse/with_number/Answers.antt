@@ -1,6 +1,6 @@
 -- `parse::with_number` meets its contract: each arm is a row of the table.
 -- Assumes nothing.
-use Rattle.std.proofs.Common.{ℕ, refl, rules, ne_eqb}
+use Rattle.std.proofs.Common.{ℕ, refl, ne_eqb}
 use Rattle.laws.specs.Tests.{choose}
 use Rattle.laws.specs.Text.{bytes}
 use Rattle.laws.proofs.Telling.{told}

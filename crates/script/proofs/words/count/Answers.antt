@@ -8,7 +8,7 @@ loop-i-preserved c =
     let a = c.args in
     let l = c.loop-i in
     elim c.if-text-i.branch [
-      then-text-i w ↦ (omega arith, (omega arith, omega (arith, count-separator a.separator l.i a.text.now (omega arith) w.if-text-i.true)))
+      | then-text-i w ↦ (omega arith, (omega arith, omega (arith, count-separator a.separator l.i a.text.now (omega arith) w.if-text-i.true)))
       | else-text-i w ↦ (omega arith, (omega arith, omega (arith, count-other a.separator l.i a.text.now (omega arith) w.if-text-i.false)))
     ]
 

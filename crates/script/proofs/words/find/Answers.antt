@@ -1,6 +1,6 @@
 -- `script::words::find` meets its contract.
 -- Assumes nothing.
-use Rattle.std.proofs.Common.{ℕ, ◌+◌, List, drop, sym, ap, ◌∙◌, arith, rules}
+use Rattle.std.proofs.Common.{ℕ, ◌+◌, List, drop, sym, ap, ◌∙◌, arith}
 use lib.Seq.{take-length}
 use Rattle.scan.specs.Bytes.{index_of, slice}
 use Rattle.script.proofs.Parts.{place_inside, place-outside}
@@ -15,6 +15,9 @@ pub returns : goal.returns
 unfolding slice
 returns c =
     let a = c.args in
-    record { value = c.find.ensures.place
+    record {
+      value = c.find.ensures.place
           ∙ ap (λ (x : List ℕ). a.from + index_of a.byte (drop a.from x)) (take-length a.s.now)
-          ∙ sym (place_inside a.byte a.from a.s.now (omega arith)); upper_bound = c.find.ensures.bound }
+          ∙ sym (place_inside a.byte a.from a.s.now (omega arith));
+      upper_bound = c.find.ensures.bound;
+    }

@@ -1,6 +1,6 @@
 -- `script::words::part` meets its contract: from where the part begins to the next separator.
 -- Assumes nothing.
-use Rattle.std.proofs.Common.{ℕ, ◌-◌, ◌<◌, take, drop, sym, ap, ◌∙◌, arith, rules}
+use Rattle.std.proofs.Common.{ℕ, ◌-◌, ◌<◌, take, drop, sym, ap, ◌∙◌, arith}
 use Rattle.script.specs.Words.{place_from}
 use Rattle.script.proofs.Parts.{part-first, part_none}
 use Rattle.script.proofs.words.part.Goals as goal

@@ -1,6 +1,6 @@
 -- Invariant: the part is the one that is left to pass, from the place on. Measure: the parts left to pass.
 -- Assumes nothing.
-use Rattle.std.proofs.Common.{◌≡◌, ℕ, suc, ◌+◌, ◌-◌, ◌≤◌, drop, sym, ap, ◌∙◌, arith}
+use Rattle.std.proofs.Common.{◌≡◌, ℕ, suc, ◌+◌, ◌-◌, drop, sym, ap, ◌∙◌, arith}
 use Rattle.script.specs.Words.{part_at}
 use Rattle.script.proofs.Parts.{start-next}
 use Rattle.script.proofs.words.start.Goals as goal

@@ -1,6 +1,6 @@
 -- `writes::address` meets its contract: four bytes, a c, and the number behind it.
 -- Assumes nothing.
-use Rattle.std.proofs.Common.{◌≡◌, ℕ, List, length, get_or, drop, sym, ap, ◌∙◌, rules, eq-eqb, ne_eqb}
+use Rattle.std.proofs.Common.{◌≡◌, ℕ, List, length, get_or, drop, sym, ap, ◌∙◌, eq-eqb, ne_eqb}
 use Rattle.laws.specs.Tests.{choose}
 use Rattle.script.specs.Numbers.{unsigned_of}
 use Rattle.script.specs.Writes.{value_or0, address_of}

@@ -1,6 +1,6 @@
 -- `writes::keep` meets its contract: a number is put where there is a place for it.
 -- Assumes nothing.
-use Rattle.std.proofs.Common.{sym, refl, ◌∙◌, rules, le-ltb, lt-ltb}
+use Rattle.std.proofs.Common.{sym, refl, ◌∙◌, le-ltb, lt-ltb}
 use Rattle.laws.proofs.Tests.{choose-true, choose-false}
 use Rattle.laws.proofs.Telling.{told}
 use Rattle.script.specs.Writes.{is_integer, integer_put}

@@ -1,7 +1,7 @@
 -- `writes::of_cell` meets its contract, by each test.
 -- Assumes nothing.
-use Rattle.std.proofs.Common.{ℕ, ◌-◌, ◌<◌, ◌≤◌, List, [], length, get_or, ap, ◌∙◌, arith, rules}
-use Rattle.laws.proofs.Joins.{fails, passes}
+use Rattle.std.proofs.Common.{ℕ, ◌-◌, ◌<◌, ◌≤◌, List, [], length, get_or, ap, ◌∙◌, arith}
+use Rattle.std.proofs.Common.{sym, ◌∙◌}
 use Rattle.script.specs.Words.{part_at, words_of}
 use Rattle.script.specs.Numbers.{integer_of}
 use Rattle.script.specs.Writes.{code_of, takes_count}

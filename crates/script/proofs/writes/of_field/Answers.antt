@@ -1,6 +1,6 @@
 -- `writes::of_field` meets its contract: a signed field by the signed number, any other by the unsigned one.
 -- Assumes nothing.
-use Rattle.std.proofs.Common.{sym, ap, ◌∙◌, rules}
+use Rattle.std.proofs.Common.{sym, ap, ◌∙◌}
 use Rattle.script.specs.Words.{part_at, words_of}
 use Rattle.script.specs.Numbers.{unsigned_of, positive, integer_of}
 use Rattle.script.specs.Writes.{with_value}

@@ -1,6 +1,6 @@
 -- `writes::of_output` meets its contract: the name first, then the number.
 -- Assumes nothing.
-use Rattle.std.proofs.Common.{sym, ap, ◌∙◌, rules}
+use Rattle.std.proofs.Common.{sym, ap, ◌∙◌}
 use Rattle.fields.specs.Kinds.{parse_field}
 use Rattle.fields.specs.declared.kinds.Kind.TheVariants.{Name}
 use Rattle.fields.specs.declared.names.Names.TheVariants.{Outputs}

@@ -1,6 +1,6 @@
 -- `writes::parse` meets its contract: an output, a cell, or a field by its name.
 -- Assumes nothing.
-use Rattle.std.proofs.Common.{ℕ, ◌-◌, ◌≤◌, List, sym, ap, ◌∙◌, arith, rules, leb-true}
+use Rattle.std.proofs.Common.{ℕ, ◌-◌, ◌≤◌, List, sym, ap, ◌∙◌, arith, leb-true}
 use Rattle.laws.specs.Text.{bytes}
 use Rattle.laws.proofs.Tests.{both_left}
 use Rattle.script.specs.Words.{part_at, words_of, same_bytes, place_of}
