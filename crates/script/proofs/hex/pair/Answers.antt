@@ -1,6 +1,6 @@
 -- `hex::pair` meets its contract, by each test.
 -- Assumes nothing.
-use Rattle.std.proofs.Common.{rules, le-leb}
+use Rattle.std.proofs.Common.{le-leb}
 use borrow.Author.Tests.{lt-leb}
 use Rattle.laws.specs.Tests.{choose}
 use Rattle.script.specs.Hex.{pair_of}

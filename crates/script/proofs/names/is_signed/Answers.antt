@@ -7,4 +7,4 @@ pub returns-in-5 : goal.returns-in-5
 returns-in-5 c = signed-one c.args.place c.in-5.is
 
 pub returns-in_default : goal.returns-in_default
-returns-in_default c = signed-none c.args.place c.in_default.rest.1
+returns-in_default c = signed-none c.args.place c.in_default.in_default-own.rest.1

@@ -1,6 +1,6 @@
 -- `names::place_of` meets its contract: the list of names is in two parts.
 -- Assumes nothing.
-use Rattle.std.proofs.Common.{◌≡◌, ◌+◌, ◌<◌, ◌≤◌, length, sym, ap, ◌∙◌, arith, rules}
+use Rattle.std.proofs.Common.{◌≡◌, ◌+◌, ◌<◌, ◌≤◌, length, sym, ap, ◌∙◌, arith}
 use Rattle.laws.specs.Text.{bytes}
 use Rattle.script.specs.Words.{place_of}
 use Rattle.script.specs.Writes.{field_names}

@@ -14,6 +14,5 @@ returns-in-Bad c = told negative c.in-Bad.is refl
 pub returns-in-Value : goal.returns-in-Value
 unfolding negative
 returns-in-Value c =
-    let number = c.number-1 in
     let sum = c.wrapping_sub_u64 in
-    told negative number.given.1 (ap integer.Value (negative-is sum.result _ sum.ensures (search rules) (search rules)))
+    told negative c.in-Value.is (ap integer.Value (negative-is sum.result _ sum.ensures.value (search rules) (search rules)))

@@ -1,6 +1,6 @@
 -- `numbers::plus` meets its contract: each arm is a clause of the definition.
 -- Assumes nothing.
-use Rattle.std.proofs.Common.{refl, rules}
+use Rattle.std.proofs.Common.{refl}
 use Rattle.laws.proofs.Telling.{told}
 use Rattle.script.specs.Numbers.{positive}
 use Rattle.script.proofs.numbers.plus.Goals as goal

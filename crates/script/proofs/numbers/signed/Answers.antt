@@ -1,6 +1,6 @@
 -- One case for each sign; the digits are the part after it.
 -- Assumes nothing.
-use Rattle.std.proofs.Common.{get_or, sym, ap, ◌∙◌, arith, rules, eq-eqb, ne_eqb}
+use Rattle.std.proofs.Common.{get_or, sym, ap, ◌∙◌, arith, eq-eqb, ne_eqb}
 use Rattle.laws.proofs.Tests.{choose-true, choose-false}
 use Rattle.script.specs.Numbers.{unsigned_of, positive, negative}
 use Rattle.script.proofs.Turns.{integer-none, integer-some, tail_all}

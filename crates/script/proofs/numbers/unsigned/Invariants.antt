@@ -1,11 +1,8 @@
 -- Invariant: the value so far, continued over the bytes left, is the value of the word; it fits 32 bits. Measure: the bytes left.
 -- Assumes nothing.
-use Rattle.std.proofs.Common.{◌≡◌, ℕ, ◌+◌, ◌-◌, ◌*◌, ◌^◌, ◌<◌, ◌≤◌, List, length, get_or, drop, sym, ap, ◌∙◌, arith, rules, le-leb}
-use borrow.Author.Tests.{lt-leb}
-use Rattle.laws.specs.Tests.{choose}
+use Rattle.std.proofs.Common.{◌≡◌, ◌-◌, ◌^◌, ◌<◌, ◌≤◌, length, drop}
 use Rattle.decimal.specs.Parsing.{value_from}
 use Rattle.script.specs.Numbers.{unsigned_of}
-use Rattle.script.proofs.Turns.{unsigned-none, unsigned-some, value-turn, value-large, value-end}
 use Rattle.script.proofs.numbers.unsigned.Given as goal
 
 abbrev pub invariant-loop-i : goal.invariant-loop-i

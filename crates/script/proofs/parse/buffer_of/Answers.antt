@@ -1,6 +1,6 @@
 -- `parse::buffer_of` meets its contract: the two words, then each test.
 -- Assumes nothing.
-use Rattle.std.proofs.Common.{rules, le-leb}
+use Rattle.std.proofs.Common.{le-leb}
 use borrow.Author.Tests.{lt-leb}
 use Rattle.laws.specs.Tests.{choose}
 use Rattle.script.specs.Calls.{buffer_of}
@@ -18,24 +18,18 @@ pub returns-then-most-size : goal.returns-then-most-size
 unfolding buffer_of choose
 returns-then-most-size c =
     let a = c.args in
-    let first = c.first-1 in
-    let second = c.second-1 in
-    simp (first.given.1, second.given.1, lt-leb _ a.most c.if-most-size.true)
+    simp (c.in-Value.is, c.in-Value-second.is, lt-leb _ a.most c.if-most-size.true)
 
 pub returns-then-fill-gt255 : goal.returns-then-fill-gt255
 unfolding buffer_of choose
 returns-then-fill-gt255 c =
     let a = c.args in
-    let first = c.first-1 in
-    let second = c.second-1 in
     let if1 = c.if-most-size in
-    simp (first.given.1, second.given.1, le-leb _ a.most if1.false, lt-leb _ 255 c.if-fill-gt255.true)
+    simp (c.in-Value.is, c.in-Value-second.is, le-leb _ a.most if1.false, lt-leb _ 255 c.if-fill-gt255.true)
 
 pub returns : goal.returns
 unfolding buffer_of choose
 returns c =
     let a = c.args in
-    let first = c.first-1 in
-    let second = c.second-1 in
     let if1 = c.if-most-size in
-    simp (first.given.1, second.given.1, le-leb _ a.most if1.false, le-leb _ 255 c.if-fill-gt255.false)
+    simp (c.in-Value.is, c.in-Value-second.is, le-leb _ a.most if1.false, le-leb _ 255 c.if-fill-gt255.false)

@@ -1,6 +1,6 @@
 -- `parse::is_comment` meets its contract: an empty line is none.
 -- Assumes nothing.
-use Rattle.std.proofs.Common.{◌≡◌, ℕ, false, List, [], ◌∷◌, length, refl, arith, rules}
+use Rattle.std.proofs.Common.{◌≡◌, ℕ, false, List, [], ◌∷◌, length, refl, arith}
 use Rattle.script.specs.Calls.{is_comment}
 use Rattle.script.proofs.parse.is_comment.Goals as goal
 

@@ -44,7 +44,7 @@ pub returns-in_default : goal.returns-in_default
 returns-in_default c =
     let a = c.args in
     let l = a.letter in
-    let n = c.in_default.rest in
+    let n = c.in_default.in_default-own.rest in
     let m = n.0.0 in
     alone-other l
     (ne_eqb l 77 m.0.0.0.0.0.1) (ne_eqb l 80 m.0.0.0.0.1) (ne_eqb l 65 m.0.0.0.1) (ne_eqb l 72 m.0.0.1)

@@ -1,6 +1,6 @@
 -- `parse::save` meets its contract, by its buffer.
 -- Assumes nothing.
-use Rattle.std.proofs.Common.{ap, ◌∙◌, ap₂, rules}
+use Rattle.std.proofs.Common.{ap, ◌∙◌, ap₂}
 use Rattle.script.specs.Words.{part_at}
 use Rattle.script.specs.Numbers.{unsigned_of}
 use Rattle.script.specs.Calls.{buffer_of, on_buffer, save_of}

@@ -1,6 +1,6 @@
 -- `parse::tell_with` meets its contract, by what the buffer is.
 -- Assumes nothing.
-use Rattle.std.proofs.Common.{refl, rules}
+use Rattle.std.proofs.Common.{refl}
 use Rattle.laws.proofs.Telling.{told}
 use Rattle.script.specs.Calls.{on_buffer}
 use Rattle.script.specs.declared.call.Call.TheVariants.{Tell}

@@ -1,8 +1,7 @@
 -- Invariant: the parts so far and those of the bytes left are one more than the parts of the text. Measure: the bytes left.
 -- Assumes nothing.
-use Rattle.std.proofs.Common.{◌≡◌, ◌+◌, ◌-◌, ◌≤◌, length, drop, ⊎_elim, arith, rules}
+use Rattle.std.proofs.Common.{◌≡◌, ◌+◌, ◌-◌, ◌≤◌, length, drop}
 use Rattle.script.specs.Words.{parts_of}
-use Rattle.script.proofs.Parts.{count-separator, count-other, count-end}
 use Rattle.script.proofs.words.count.Given as goal
 
 abbrev pub invariant-loop-i : goal.invariant-loop-i

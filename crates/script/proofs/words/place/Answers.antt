@@ -1,7 +1,7 @@
 -- Invariant: the place is that in the names left, counted on from the names passed. Measure: the names left.
 -- Assumes nothing.
-use Rattle.std.proofs.Common.{◌≡◌, ◌+◌, ◌-◌, ◌≤◌, List, length, drop, sym, ap, ◌∙◌, arith, rules}
-use Rattle.script.specs.Words.{part_at, words_of, same_bytes, place_of}
+use Rattle.std.proofs.Common.{List, sym, ap, ◌∙◌, arith}
+use Rattle.script.specs.Words.{part_at, words_of, same_bytes}
 use Rattle.script.proofs.Naming.{same-as, place_here, place-next, place_end}
 use Rattle.script.proofs.words.place.Goals as goal
 

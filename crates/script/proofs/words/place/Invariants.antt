@@ -1,8 +1,7 @@
 -- Invariant: the place is that in the names left, counted on from the names passed. Measure: the names left.
 -- Assumes nothing.
-use Rattle.std.proofs.Common.{◌≡◌, ◌+◌, ◌-◌, ◌≤◌, List, length, drop, sym, ap, ◌∙◌, arith, rules}
-use Rattle.script.specs.Words.{part_at, words_of, same_bytes, place_of}
-use Rattle.script.proofs.Naming.{same-as, place_here, place-next, place_end}
+use Rattle.std.proofs.Common.{◌≡◌, ◌+◌, ◌-◌, ◌≤◌, length, drop}
+use Rattle.script.specs.Words.{words_of, place_of}
 use Rattle.script.proofs.words.place.Given as goal
 
 abbrev pub invariant-loop-k : goal.invariant-loop-k

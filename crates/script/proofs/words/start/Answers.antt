@@ -1,6 +1,6 @@
 -- Invariant: the part is the one that is left to pass, from the place on. Measure: the parts left to pass.
 -- Assumes nothing.
-use Rattle.std.proofs.Common.{◌≡◌, ℕ, suc, ◌+◌, ◌-◌, ◌≤◌, drop, sym, ap, ◌∙◌, arith}
+use Rattle.std.proofs.Common.{◌≡◌, ℕ, suc, ◌+◌, ◌-◌, drop, sym, ap, ◌∙◌, arith}
 use Rattle.script.specs.Words.{part_at}
 use Rattle.script.proofs.Parts.{start-next}
 use Rattle.script.proofs.words.start.Goals as goal
@@ -14,5 +14,5 @@ loop-i-preserved c =
       l.invariant.1
           ∙ ap (λ (j : ℕ). part_at a.separator j (drop l.at a.text.now)) left
           ∙ start-next a.separator l.at (a.k - (l.i + 1)) a.text.now
-          ∙ ap (λ (j : ℕ). part_at a.separator (a.k - (l.i + 1)) (drop (j + 1) a.text.now)) (sym c.find-at.ensures.0),
+          ∙ ap (λ (j : ℕ). part_at a.separator (a.k - (l.i + 1)) (drop (j + 1) a.text.now)) (sym c.find-at.ensures.value),
     )

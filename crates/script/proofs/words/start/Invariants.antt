@@ -1,8 +1,7 @@
 -- Invariant: the part is the one that is left to pass, from the place on. Measure: the parts left to pass.
 -- Assumes nothing.
-use Rattle.std.proofs.Common.{◌≡◌, ℕ, suc, ◌+◌, ◌-◌, ◌≤◌, drop, sym, ap, ◌∙◌, arith}
+use Rattle.std.proofs.Common.{◌≡◌, ◌-◌, ◌≤◌, drop}
 use Rattle.script.specs.Words.{part_at}
-use Rattle.script.proofs.Parts.{start-next}
 use Rattle.script.proofs.words.start.Given as goal
 
 abbrev pub invariant-loop-i : goal.invariant-loop-i

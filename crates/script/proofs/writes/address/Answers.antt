@@ -1,6 +1,6 @@
 -- `writes::address` meets its contract: four bytes, a c, and the number behind it.
 -- Assumes nothing.
-use Rattle.std.proofs.Common.{◌≡◌, ℕ, List, length, get_or, drop, sym, ap, ◌∙◌, rules, eq-eqb, ne_eqb}
+use Rattle.std.proofs.Common.{◌≡◌, ℕ, List, length, get_or, drop, sym, ap, ◌∙◌, eq-eqb, ne_eqb}
 use Rattle.laws.specs.Tests.{choose}
 use Rattle.script.specs.Numbers.{unsigned_of}
 use Rattle.script.specs.Writes.{value_or0, address_of}
@@ -40,7 +40,6 @@ returns-in-Value c =
     let if1 = c.if-name-ne4 in
     let if2 = c.if-name-ne99 in
     let unsigned = c.unsigned-number in
-    let number = c.number-1 in
     let s = a.name.now in
     let value = sym (unsigned.ensures ∙ ap unsigned_of (tail_all s)) in
-    ap value_or0 (sym (value ∙ number.given.1)) ∙ address_is s if1.false if2.false
+    ap value_or0 (sym (value ∙ c.in-Value.is)) ∙ address_is s if1.false if2.false

@@ -1,6 +1,6 @@
 -- `writes::code_of` meets its contract: each arm is a clause of the definition.
 -- Assumes nothing.
-use Rattle.std.proofs.Common.{sym, refl, ◌∙◌, rules}
+use Rattle.std.proofs.Common.{sym, refl, ◌∙◌}
 use Rattle.laws.proofs.Telling.{told}
 use Rattle.script.specs.Writes.{code_of}
 use Rattle.script.proofs.writes.code_of.Goals as goal

@@ -1,12 +1,10 @@
 -- Invariant: two words are passed at first; the words left are integers as all are, and putting them into the numbers makes those of all.
 -- Measure: the words left.
 -- Assumes nothing.
-use Rattle.std.proofs.Common.{◌≡◌, ℕ, ◌+◌, ◌-◌, ◌<◌, ◌≤◌, List, length, drop, sym, refl, ap, ◌∙◌, arith, rules}
-use Rattle.laws.proofs.Joins.{fails, passes, both-on, both-false-left}
-use Rattle.script.specs.Words.{part_at, words_of}
-use Rattle.script.specs.Numbers.{integer_of}
-use Rattle.script.specs.Writes.{is_integer, are_integers, filled}
-use Rattle.script.proofs.Turns.{rest, are_integers-turn, are_integers-end, rest_end, rest_put, rest-stop}
+use Rattle.std.proofs.Common.{◌≡◌, ◌-◌, ◌≤◌, drop}
+use Rattle.script.specs.Words.{words_of}
+use Rattle.script.specs.Writes.{are_integers}
+use Rattle.script.proofs.Turns.{rest}
 use Rattle.script.proofs.writes.keep_all.Given as goal
 
 abbrev pub invariant-loop-k : goal.invariant-loop-k

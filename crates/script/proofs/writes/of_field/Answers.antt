@@ -1,6 +1,6 @@
 -- `writes::of_field` meets its contract: a signed field by the signed number, any other by the unsigned one.
 -- Assumes nothing.
-use Rattle.std.proofs.Common.{sym, ap, ◌∙◌, rules}
+use Rattle.std.proofs.Common.{sym, ap, ◌∙◌}
 use Rattle.script.specs.Words.{part_at, words_of}
 use Rattle.script.specs.Numbers.{unsigned_of, positive, integer_of}
 use Rattle.script.specs.Writes.{with_value}
@@ -21,7 +21,7 @@ returns-then-is_signed c =
     let pre = c.requires in
     let if1 = c.if-count-ne3 in
     let part = c.part-word in
-    let is_Signed = c.is_Signed in
+    let is_Signed = c.is_signed in
     let if2 = c.if-is_signed in
     let signed = c.signed in
     let ws = words_of a.line.now in
@@ -36,7 +36,7 @@ returns c =
     let pre = c.requires in
     let if1 = c.if-count-ne3 in
     let part = c.part-word in
-    let is_Signed = c.is_Signed in
+    let is_Signed = c.is_signed in
     let if2 = c.if-is_signed in
     let unsigned = c.unsigned in
     let plus = c.plus in

@@ -1,6 +1,6 @@
 -- `writes::of_output` meets its contract: the name first, then the number.
 -- Assumes nothing.
-use Rattle.std.proofs.Common.{sym, ap, ◌∙◌, rules}
+use Rattle.std.proofs.Common.{sym, ap, ◌∙◌}
 use Rattle.fields.specs.Kinds.{parse_field}
 use Rattle.fields.specs.declared.kinds.Kind.TheVariants.{Name}
 use Rattle.fields.specs.declared.names.Names.TheVariants.{Outputs}
@@ -34,10 +34,9 @@ returns-then-output-ge-OUTPUTS c =
     let if1 = c.if-count-ne4 in
     let part = c.part in
     let parse-field = c.parse_field-name in
-    let name = c.name-1 in
     let ws = words_of a.line.now in
     let named = sym (parse-field.ensures ∙ ap (parse_field (Name Outputs)) part.ensures) in
-    output-beyond ws (sym pre ∙ if1.false) (named ∙ name.given.1) c.if-output-ge-OUTPUTS.true
+    output-beyond ws (sym pre ∙ if1.false) (named ∙ c.in-Value.is) c.if-output-ge-OUTPUTS.true
 
 pub returns-in_default-number : goal.returns-in_default-number
 unfolding part_at
@@ -47,14 +46,13 @@ returns-in_default-number c =
     let if1 = c.if-count-ne4 in
     let part = c.part in
     let parse-field = c.parse_field-name in
-    let name = c.name-1 in
     let if2 = c.if-output-ge-OUTPUTS in
     let part2 = c.part-2 in
     let unsigned = c.unsigned-number in
     let ws = words_of a.line.now in
     let named = sym (parse-field.ensures ∙ ap (parse_field (Name Outputs)) part.ensures) in
     let value = sym (unsigned.ensures ∙ ap unsigned_of part2.ensures) in
-    output-bad ws (sym pre ∙ if1.false) (named ∙ name.given.1) if2.false (value ∙ c.in_default-number.is)
+    output-bad ws (sym pre ∙ if1.false) (named ∙ c.in-Value.is) if2.false (value ∙ c.in_default-number.is)
 
 pub returns : goal.returns
 unfolding part_at
@@ -64,12 +62,10 @@ returns c =
     let if1 = c.if-count-ne4 in
     let part = c.part in
     let parse-field = c.parse_field-name in
-    let name = c.name-1 in
     let if2 = c.if-output-ge-OUTPUTS in
     let part2 = c.part-2 in
     let unsigned = c.unsigned-number in
-    let number = c.number-1 in
     let ws = words_of a.line.now in
     let named = sym (parse-field.ensures ∙ ap (parse_field (Name Outputs)) part.ensures) in
     let value = sym (unsigned.ensures ∙ ap unsigned_of part2.ensures) in
-    output-good ws (sym pre ∙ if1.false) (named ∙ name.given.1) if2.false (value ∙ number.given.1)
+    output-good ws (sym pre ∙ if1.false) (named ∙ c.in-Value.is) if2.false (value ∙ c.in-Value-number.is)

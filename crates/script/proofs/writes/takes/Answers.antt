@@ -1,6 +1,6 @@
 -- `writes::takes` meets its contract: a code above 99 is none.
 -- Assumes nothing.
-use Rattle.std.proofs.Common.{◌≡◌, ℕ, true, eqb, length, sym, ap, ◌∙◌, rules}
+use Rattle.std.proofs.Common.{◌≡◌, ℕ, true, eqb, length, sym, ap, ◌∙◌}
 use Rattle.laws.proofs.Joins.{fails, passes}
 use Rattle.format.specs.Formats.{known, fields_of, format_of}
 use Rattle.format.specs.declared.Format.{Format}

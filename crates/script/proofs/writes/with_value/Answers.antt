@@ -1,6 +1,6 @@
 -- `writes::with_value` meets its contract: each arm is a clause of the definition.
 -- Assumes nothing.
-use Rattle.std.proofs.Common.{refl, rules}
+use Rattle.std.proofs.Common.{refl}
 use Rattle.laws.proofs.Telling.{told}
 use Rattle.script.specs.Writes.{with_value}
 use Rattle.script.proofs.writes.with_value.Goals as goal
