@@ -43,6 +43,7 @@ pub enum Refusal {
 
 impl Refusal {
     // Its number, 0 where nothing was refused. Those of lists begin at 100.
+    #[tactic(auto, unfolding(crate::specs::Refusing::number_of))]
     pub fn number(self) -> u8
         ensures { result ≡ number_of self }
     {
@@ -58,6 +59,7 @@ impl Refusal {
 
 impl Head {
     // How many bytes the word takes, none where there is no word.
+    #[tactic(auto, unfolding(crate::specs::Words::size_of))]
     pub fn size(self) -> usize
         ensures { result ≡ size_of self }
     {
@@ -76,6 +78,7 @@ impl Head {
     }
 
     // How many bytes can be seen of it.
+    #[tactic(auto, unfolding(crate::specs::Words::room_of))]
     pub fn room(self) -> usize
         ensures { result ≡ room_of self }
     {
@@ -96,6 +99,7 @@ impl Head {
 
 // The word at the front of a list. Bytes that are missing count as 0: the list then ends within the
 // word, which `check` refuses.
+#[tactic(auto, unfolding(crate::specs::Words::head_of, crate::specs::Words::head_with, laws::specs::Tests::choose))]
 pub fn head_of(list: &[u8]) -> Head
     ensures { result ≡ head_of list.now }
 {

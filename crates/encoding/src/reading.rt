@@ -12,6 +12,7 @@ pub fn byte_at(list: &[u8], k: usize) -> u8
 }
 
 // Two bytes, the lower first.
+#[tactic(auto, unfolding(crate::specs::Numbers::pair_at))]
 pub fn pair_at(list: &[u8], k: usize) -> u16
     requires { k < 16 }
     ensures { result ≡ pair_at list.now k }
@@ -22,6 +23,7 @@ pub fn pair_at(list: &[u8], k: usize) -> u16
 }
 
 // Four bytes, the lowest first.
+#[tactic(auto, unfolding(crate::specs::Numbers::number_at))]
 pub fn number_at(list: &[u8], k: usize) -> u32
     requires { k < 8 }
     ensures { result ≡ number_at list.now k }

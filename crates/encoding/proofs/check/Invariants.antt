@@ -1,10 +1,8 @@
 -- `check` meets its contract: what is left of the list at each word decides as the whole list does.
 -- Assumes nothing.
-use borrow.Author.Rules.{rules}
 use Prim.Native.Nat.{◌-◌}
-use native.Mathlib.Omega.{arith}
 use lib.ListN.{length}
-use Rattle.encoding.proofs.Turns.{Checked, checked-start, checked-end, no_word, cut_short, short-buffer, passed}
+use Rattle.encoding.proofs.Turns.{Checked}
 use Rattle.encoding.proofs.check.Given as goal
 
 abbrev pub invariant-loop-at : goal.invariant-loop-at
