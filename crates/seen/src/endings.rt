@@ -9,6 +9,7 @@ use machine::answers::End;
 use operations::results::Ending;
 
 // The end of a wait, as a number.
+#[tactic(auto, unfolding(crate::specs::Bytes::end_number))]
 fn end_number(end: End) -> u8
     ensures { result ≡ end_number end }
 {

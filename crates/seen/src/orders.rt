@@ -18,6 +18,7 @@ pub struct Parts {
 }
 
 // CU in bit 0, FC in bit 1, a run backward in bit 2.
+#[tactic(auto, unfolding(crate::specs::Bytes::signal_bits, laws::specs::Tests::choose))]
 fn signal_bits(signals: BoardSignals, backward: bool) -> u8
     ensures { result ≡ signal_bits signals backward }
 {
@@ -27,6 +28,7 @@ fn signal_bits(signals: BoardSignals, backward: bool) -> u8
     powered + fc + back
 }
 
+#[tactic(auto, unfolding(crate::specs::Bytes::parts_of))]
 fn parts_of(order: BoardOrder) -> Parts
     ensures { result ≡ parts_of order }
 {
