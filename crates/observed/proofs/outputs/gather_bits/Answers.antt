@@ -29,12 +29,3 @@ loop-i-preserved c = let l = c.loop-i in
             (gathered-then l.invariant.1.1 c.gather_bit-next.ensures),
       ),
     )
-
-pub shape_of-line : goal.shape_of-line
-shape_of-line c = gathered-length c.loop-i.invariant.1.1
-
-pub returns : goal.returns
-returns c = let l = c.loop-i in
-    let a = c.args in
-    let end : l.i ≡ a.to = omega arith in
-    gathered-as (ap (λ (j : ℕ). bits_text (take (j - a.from) (drop a.from a.outputs))) (sym end)) l.invariant.1.1

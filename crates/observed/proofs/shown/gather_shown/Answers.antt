@@ -16,12 +16,3 @@ pub loop-i-preserved : goal.loop-i-preserved
 loop-i-preserved c = let l = c.loop-i in
     let a = c.args in
     (omega arith, gathered-as (shown-next a.bytes.now l.i (omega arith)) (gathered-then l.invariant.1 c.gather_byte-next.ensures))
-
-pub shape_of-line : goal.shape_of-line
-shape_of-line c = gathered-length c.loop-i.invariant.1
-
-pub returns : goal.returns
-returns c = let l = c.loop-i in
-    let a = c.args in
-    let end : l.i ≡ length a.bytes.now = omega arith in
-    gathered-as (ap shown (sym (ap (λ (j : ℕ). take j a.bytes.now) end ∙ take-length a.bytes.now))) l.invariant.1

@@ -6,9 +6,6 @@ use Rattle.observed.specs.declared.sums.Sum.{Sum}
 use Rattle.observed.proofs.Texts.{sum-next, sum-end}
 use Rattle.observed.proofs.sums.Sum.with_all.Goals as goal
 
-pub loop-i-init : goal.loop-i-init
-loop-i-init c = (omega arith, refl)
-
 pub loop-i-preserved : goal.loop-i-preserved
 loop-i-preserved c = let l = c.loop-i in
     let s = c.args.bytes.now in
