@@ -14,7 +14,7 @@ fn main() {
     println!("cargo:rerun-if-changed={}", library.display());
     if !library.is_file() {
         panic!(
-            "there is no {}: build it by `rt staticlib archive`, or name its folder in \
+            "there is no {}: build it by `bin/library`, or name its folder in \
              CUMINHAMPER_LIB",
             library.display()
         );
@@ -23,7 +23,7 @@ fn main() {
     println!("cargo:rustc-link-lib=static=archive");
 }
 
-/// CUMINHAMPER_LIB, or where `rt staticlib` leaves libraries.
+/// CUMINHAMPER_LIB, or where `bin/library` leaves it.
 fn folder() -> PathBuf {
     match env::var_os("CUMINHAMPER_LIB") {
         Some(folder) => PathBuf::from(folder),

@@ -6,7 +6,7 @@ from pathlib import Path
 from typing import NamedTuple
 
 from container.commands import PATH, run
-from workbench import build
+from workbench import build, service_build
 from workbench.trouble import Trouble, say
 
 # Sources are mounted here for a build, seen by nobody else, so that no path of a checkout is in a binary. Remapping alone does not do that: cargo takes the
@@ -19,7 +19,7 @@ FLAGS = ["-C target-feature=+crt-static", f"--remap-path-prefix={MOUNT}={SHOWN}"
 FOREIGN = ("RUSTFLAGS", "RUSTC", "CARGO_BUILD_", "CARGO_ENCODED_", "CARGO_PROFILE_", "CARGO_TARGET_", "CUMINHAMPER_")
 BUILDS = Path("target/static")
 ARCHIVE = Path("target/staticlib/libarchive.a")
-ENGINE_OBJECT = Path("target/obj/engine.o")
+ENGINE_OBJECT = Path("crates/engine/out/engine.o")
 # All that a build reads.
 SOURCES = ["gateway", "client", "reference", ARCHIVE, ENGINE_OBJECT]
 
@@ -77,10 +77,11 @@ def judged(binary):
 
 
 def linked_engine(root):
-    """The proved object of the program engine, linked static."""
+    """The proved object of the program engine, linked static with what it calls of the toolchain's C code."""
     binary = root / BUILDS / "engine"
     binary.parent.mkdir(parents=True, exist_ok=True)
     words = ["gcc", "-static", "-s", "-Wl,--build-id=none", "-o", binary, root / ENGINE_OBJECT]
+    words += [service_build.kit() / "c/libos_c.a", service_build.kit() / "c/liblibc_c.a"]
     run(words, "linking engine static")
     return judged(binary)
 
@@ -102,12 +103,8 @@ def copied(root, copy):
 def prove(root):
     """Proves the engine and writes its library and its program, where they are missing or older than their crates."""
     build.program("engine")
-    archive = root / ARCHIVE
-    folders = [root / "crates" / crate for crate in build.with_uses(["archive"])]
-    if archive.exists() and not build.is_older(archive, [root / "crates.txt"], folders):
-        return
-    say("image", f"{ARCHIVE} is missing or older than its crates: rt proves it")
-    with build.locked():
-        run(["rt", "staticlib", "archive"], "proving the library archive", cwd=root)
-    if not archive.exists():
-        raise Trouble(f"rt staticlib archive is content, and {archive} is not there; look at target/log/archive.say")
+    if not (root / ENGINE_OBJECT).exists():
+        # `rt ci` has taken the program from an earlier run.
+        with build.locked() as lock:
+            build.prove(["engine"], lock, f"{ENGINE_OBJECT} is not there")
+    build.build_where(service_build.stale_library, service_build.make_library)

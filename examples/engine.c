@@ -1,7 +1,7 @@
 /*
  * The proved engine inside a C program: an engine in a thread, a program stored and run to its end.
  *
- *     rt staticlib archive
+ *     bin/library
  *     cc -std=c99 -Iclient/include examples/engine.c target/staticlib/libarchive.a -pthread -o engine && ./engine
  *
  * The clock and the pulse board of a real host stand where this one counts.

@@ -1,6 +1,6 @@
 //! The proved engine inside a Rust program: an engine in a thread, a program stored and run to its end.
 //!
-//!     rt staticlib archive
+//!     bin/library
 //!     cargo run --offline --manifest-path client/Cargo.toml --features linked --example engine
 //!
 //! The clock and the pulse board of a real host stand where this one counts.

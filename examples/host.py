@@ -1,7 +1,7 @@
 #!/usr/bin/env python3
 """A host in a page: the proved engine as a process, one call a line, one line of what is seen for each (docs/SCRIPTS.md).
 
-  examples/host.py [PROGRAM]    the engine, target/bin/replay unless given
+  examples/host.py [PROGRAM]    the engine, crates/replay/out/replay unless given
 
 The serial line, the clock and the pulse board of a real host stand where this one prints and counts.
 """
@@ -11,7 +11,7 @@ import sys
 from pathlib import Path
 
 ROOT = Path(__file__).resolve().parent.parent
-words = sys.argv[1:] or [str(ROOT / "target/bin/replay")]
+words = sys.argv[1:] or [str(ROOT / "crates/replay/out/replay")]
 engine = subprocess.Popen(words, stdin=subprocess.PIPE, stdout=subprocess.PIPE, text=True)
 
 

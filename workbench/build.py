@@ -5,7 +5,6 @@ import contextlib
 import fcntl
 import functools
 import os
-import re
 import select
 import shutil
 import signal
@@ -21,10 +20,8 @@ TARGET = ROOT / "target"
 REFERENCE = ROOT / "reference/target/release/reference"
 # All of them at once, so that one first build serves every tool.
 PROGRAMS = ["console", "replay"]
-# What rt says of a crate that is proved, now or before.
-PROVED = re.compile(r"rt: (\w+) proved \((.*)\)")
-# What rt says beside it where all goes well.
-GOOD = re.compile(r"rt: (\w+ ran\b|ok, )")
+# The last line of a proof that was done now, and not taken from before.
+PROVED = "logic=proved"
 # A build that is told to stop gets so many seconds for it.
 GRACE = 5
 
@@ -34,7 +31,7 @@ def program(name):
     """The path of a proved program, looked after once in a run."""
     wanted = PROGRAMS if name in PROGRAMS else [name]
     build_where(lambda: stale_program(name), lambda lock, reason: prove(wanted, lock, f"the program {name} {reason}"))
-    return str(TARGET / "bin" / name)
+    return str(out(name) / name)
 
 
 @functools.lru_cache(maxsize=None)
@@ -70,13 +67,28 @@ def locked():
 # What is stale, and why.
 
 
+def out(name):
+    """Where rt puts what it makes of a crate."""
+    return ROOT / "crates" / name / "out"
+
+
 def stale_program(name):
-    """Why a program has to be built, or nothing. A stamp says that it was proved, linked and run to the end."""
-    path = TARGET / "bin" / name
-    if not os.access(path, os.X_OK) or not (TARGET / "stamp" / name).exists():
+    """Why a program has to be built, or nothing."""
+    path = out(name) / name
+    if not os.access(path, os.X_OK) or not is_whole(path):
         return "is not built yet"
-    folders = [ROOT / "crates" / crate for crate in with_uses([name])]
-    return "is older than its crates" if is_older(path, [ROOT / "crates.txt"], folders) else ""
+    return "is older than its crates" if is_behind(path, name) else ""
+
+
+def is_whole(path):
+    """Whether the build of a program came to its end: `rt run` leaves a stamp then, and `rt ci` what the program wrote."""
+    stamp, wrote = path.with_name(f"{path.name}.stamp"), path.with_name("stdout")
+    return stamp.exists() or (wrote.exists() and wrote.stat().st_mtime_ns >= path.stat().st_mtime_ns)
+
+
+def is_behind(path, name):
+    """Whether what was made of a crate is older than it and what it uses."""
+    return is_older(path, [ROOT / "crates.txt"], [ROOT / "crates" / crate for crate in with_uses([name])])
 
 
 def stale_reference():
@@ -88,8 +100,16 @@ def stale_reference():
 
 def is_older(path, files, folders):
     made = path.stat().st_mtime_ns
-    inside = (os.path.join(at, name) for folder in folders for at, _, names in os.walk(folder) for name in names)
+    inside = (os.path.join(at, name) for folder in folders for at, names in walked(folder) for name in names)
     return any(changed(source) > made for source in [*files, *inside])
+
+
+def walked(folder):
+    """The folders of a source with their files, without what rt has made there."""
+    for at, below, names in os.walk(folder):
+        if at == os.fspath(folder) and "out" in below:
+            below.remove("out")
+        yield at, names
 
 
 def changed(source):
@@ -101,15 +121,19 @@ def changed(source):
 
 
 def with_uses(names):
-    """Names of crates with all that they use. What crates.txt does not list comes with the toolchain."""
+    """Names of crates with all that they use, each after what it uses. What crates.txt does not list comes with the toolchain."""
     lines = (line.partition("#")[0].partition(":") for line in (ROOT / "crates.txt").read_text().splitlines())
-    uses = {name.strip(): used.split() for name, colon, used in lines if colon}
-    found, todo = set(), list(names)
-    while todo:
-        name = todo.pop()
+    uses = {said.split()[0]: used.split() for said, colon, used in lines if colon}
+    found = []
+
+    def visit(name):
         if name in uses and name not in found:
-            found.add(name)
-            todo += uses[name]
+            for used in uses[name]:
+                visit(used)
+            found.append(name)
+
+    for name in names:
+        visit(name)
     return found
 
 
@@ -117,32 +141,35 @@ def with_uses(names):
 
 
 def prove(names, lock, reason):
-    """Proves and builds programs by rt."""
+    """Proves crates and all that they use by rt, the lowest first, and builds them: a library for those above it, a program with a run of no input."""
     needed("rt", "the Rattle toolchain, which proves and builds the engine", reason)
-    crates = len(with_uses(names))
-    long = "about ten minutes on two cores where nothing is proved yet"
-    say("build", f"{reason}: rt proves {crates} crates and builds {' and '.join(names)}, which takes {long}")
+    crates = with_uses(names)
+    long = "tens of minutes on two cores where nothing is proved yet"
+    say("build", f"{reason}: rt proves {len(crates)} crates and builds {' and '.join(names)}, which takes {long}")
+    began, progress = time.time(), Progress(len(crates))
+    try:
+        for crate in crates:
+            prove_crate(crate, lock, progress)
+    finally:
+        progress.end()
     for name in names:
-        if not (TARGET / "bin" / name).exists():
-            # Without this stamp rt builds the program, proved before or not.
-            (TARGET / "stamp" / name).unlink(missing_ok=True)
-    began, progress, faults = time.time(), Progress(crates), []
-    status = run(["rt", "check", *names], lock, progress, lambda line: hear(line, progress, faults))
-    missing = [name for name in names if not (TARGET / "bin" / name).exists()]
-    if status != 0 or missing:
-        first = faults[0] if faults else f"rt ended with status {status}"
-        raise Trouble(f"the engine is not built: {first}; target/log has what was said of each crate")
-    for name in names:
-        date(TARGET / "bin" / name, began)
+        if (out(name) / name).exists():
+            date(out(name) / name, began)
 
 
-def hear(line, progress, faults):
-    """A line of rt: a crate that is proved, a fault, or one of the many others."""
-    proved = PROVED.fullmatch(line)
-    if proved:
-        progress.count(proved[1], line if proved[2].endswith(" s") else "")
-    elif line.startswith("rt: ") and not GOOD.match(line):
-        faults.append(line[len("rt: ") :])
+def prove_crate(crate, lock, progress):
+    folder, log, anew, began = ROOT / "crates" / crate, TARGET / "log" / f"{crate}.out", [], time.monotonic()
+    log.parent.mkdir(exist_ok=True)
+
+    def hear(line):
+        print(line, file=kept)
+        anew.append(line.startswith(PROVED))
+
+    with open(log, "w") as kept:
+        status = run(["rt", "run" if (folder / "src/main.rt").exists() else "lib"], lock, progress, hear, folder)
+    if status != 0:
+        raise Trouble(f"the engine is not built: {crate} NOT PROVED (rt ended with status {status}); {log.relative_to(ROOT)} has what was said of it")
+    progress.count(crate, f"build: {crate} proved ({time.monotonic() - began:.0f} s)" if any(anew) else "")
 
 
 def compile_reference(lock, reason):
@@ -153,8 +180,12 @@ def compile_reference(lock, reason):
     log.parent.mkdir(exist_ok=True)
     words = ["cargo", "build", "--release", "--offline", "--quiet", "--manifest-path", "reference/Cargo.toml", "--target-dir", "reference/target"]
     began = time.time()
+    progress = Progress(0)
     with open(log, "w") as kept:
-        status = run(words, lock, Progress(0), lambda line: print(line, file=kept))
+        try:
+            status = run(words, lock, progress, lambda line: print(line, file=kept))
+        finally:
+            progress.end()
     if status != 0 or not REFERENCE.exists():
         raise Trouble("the second implementation is not built; target/log/reference.out has what cargo said")
     date(REFERENCE, began)
@@ -170,18 +201,17 @@ def date(path, began):
     os.utime(path, (began, began))
 
 
-def run(words, lock, progress, hear):
+def run(words, lock, progress, hear, folder=ROOT):
     """Runs a command, hears its lines and gives its status. It has a group of its own, since the jobs that rt starts would outlive an interrupt, and it
     holds the lock as long as any of it runs."""
     process = subprocess.Popen(
-        words, cwd=ROOT, stdin=subprocess.DEVNULL, stdout=subprocess.PIPE, stderr=subprocess.STDOUT, start_new_session=True, pass_fds=[lock.fileno()]
+        words, cwd=folder, stdin=subprocess.DEVNULL, stdout=subprocess.PIPE, stderr=subprocess.STDOUT, start_new_session=True, pass_fds=[lock.fileno()]
     )
     try:
         for line in lines(process.stdout):
             hear(line) if line is not None else progress.show()
         return process.wait()
     finally:
-        progress.end()
         stop(process)
 
 

@@ -1,5 +1,5 @@
 /*
- * The drive engine as a C library: libarchive.a, written by `rt staticlib archive`, for x86-64 Linux.
+ * The drive engine as a C library: libarchive.a, written by `bin/library`, for x86-64 Linux.
  *
  *     cc -std=c99 -Iclient/include host.c target/staticlib/libarchive.a -pthread
  *

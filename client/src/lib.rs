@@ -3,7 +3,7 @@
 //!
 //! With the feature `linked` the proved library `libarchive.a` is linked in, and `Engine::start`
 //! runs an engine in a thread. Without it, [`Engine::spawn`] runs a program that speaks the
-//! protocol: `target/bin/engine`, which is proved, or `reference serve`, the second implementation.
+//! protocol: `crates/engine/out/engine`, which is proved, or `reference serve`, the second implementation.
 //!
 //! ```
 //! use cuminhamper::{Engine, List, Seen};

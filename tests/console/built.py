@@ -7,10 +7,10 @@ import sys
 import time
 from pathlib import Path
 
-from common import PATIENCE, lines
+from common import PATIENCE, PROGRAM, lines
 from tree import ANSWERS, GIVEN, in_a_tree
 
-FAILING = "echo 'rt: replay NOT PROVED (exit 1, 3 s)'; echo 'rt: FAILED: replay'; exit 1"
+FAILING = "if [ $name = replay ]; then echo 'logic=not-proved'; exit 1; fi"
 
 
 @in_a_tree
@@ -19,9 +19,10 @@ def first_build(tree):
     status, output, told = tree.ran()
     first, *more = told.splitlines()
     yield "the first use", (0, ANSWERS), (status, output)
-    yield "a sentence at once", [], [part for part in ["is not built yet", "3 crates", "about ten minutes"] if part not in first]
-    yield "a line for each crate that is proved anew, and nothing else of rt", ["rt: console proved (3 s), 2 of 3", "rt: replay proved (3 s), 3 of 3"], more
-    yield "one build for all tools", "check console replay\n", (tree.root / "calls").read_text()
+    yield "a sentence at once", [], [part for part in ["is not built yet", "3 crates", "tens of minutes"] if part not in first]
+    yield "a line for each crate that is proved anew, and nothing else of rt", ["build: console proved (0 s), 2 of 3", "build: replay proved (0 s), 3 of 3"], more
+    yield "one build for all tools", "laws lib\nconsole run\nreplay run\n", (tree.root / "calls").read_text()
+    yield "what rt said", "fn console::main: proved", (tree.root / "target/log/console.out").read_text().splitlines()[1]
     yield "standard input is the console's", "", (tree.root / "read").read_text()
     yield "the second use", (0, ANSWERS, ""), tree.ran()
 
@@ -33,13 +34,27 @@ def older_programs(tree):
     later = time.time() + 1
     os.utime(tree.source, (later, later))
     status, output, told = tree.ran()
-    yield "a newer source", (0, ANSWERS, True, 2), (status, output, "is older than its crates" in told, tree.calls())
+    yield "a newer source", (0, ANSWERS, True, 2), (status, output, "is older than its crates" in told, tree.builds())
     os.utime(tree.source, (1, 1))
     yield "then none", (0, ANSWERS, ""), tree.ran()
-    (tree.root / "target/bin/console").unlink()
-    yield "a program that is gone, its stamp there", (0, ANSWERS), tree.ran()[:2]
-    (tree.root / "target/stamp/console").unlink()
-    yield "a build that was cut off, its program there", (0, ANSWERS), tree.ran()[:2]
+    tree.program.unlink()
+    yield "a program that is gone, its stamp there", (0, ANSWERS, 3), (*tree.ran()[:2], tree.builds())
+    tree.stamp.unlink()
+    yield "a build that was cut off, its program there", (0, ANSWERS, 4), (*tree.ran()[:2], tree.builds())
+
+
+@in_a_tree
+def left_by_the_gate(tree):
+    """`rt ci` leaves no stamp, and what the program wrote."""
+    tree.rt()
+    tree.programs(f"#!/bin/sh\nexec '{PROGRAM}'\n")
+    tree.stamp.unlink()
+    wrote = tree.program.with_name("stdout")
+    wrote.write_text("")
+    yield "a program that was run", (0, ANSWERS, ""), tree.ran()
+    later = time.time() + 1
+    os.utime(tree.program, (later, later))
+    yield "one that was linked since and not run", (0, ANSWERS, 1), (*tree.ran()[:2], tree.builds())
 
 
 @in_a_tree
@@ -50,9 +65,9 @@ def failures(tree):
     tree.rt(end=FAILING)
     status, output, told = tree.ran()
     yield "a crate that is not proved", (1, b""), (status, output)
-    yield "a crate that is not proved, told", [], [part for part in ["replay NOT PROVED", "target/log"] if part not in told.splitlines()[-1]]
+    yield "a crate that is not proved, told", [], [part for part in ["replay NOT PROVED", "target/log/replay.out"] if part not in told.splitlines()[-1]]
     tree.tool("rt", "#!/bin/sh\nexit 2\n")
-    (tree.root / "target/bin/console").unlink()
+    tree.program.unlink()
     yield "an rt that breaks", (1, b"", True), (*tree.ran()[:2], "status 2" in tree.ran()[2])
 
 
@@ -93,7 +108,7 @@ def two_at_once(tree):
     (tree.root / "go").touch()
     yield "the second waits, and says so", True, "another tool is building" in waits
     yield "both go on", [ANSWERS, ANSWERS], [tool.communicate(GIVEN, PATIENCE)[0] for tool in [first, second]]
-    yield "one build", 1, tree.calls()
+    yield "one build", 1, tree.builds()
 
 
 @in_a_tree
@@ -126,4 +141,4 @@ def second_implementation(tree):
     yield "no second one", (0, made, ""), tree.ran(words=words, cwd=tree.root)
 
 
-TESTS = [first_build, older_programs, failures, interrupt, two_at_once, at_a_terminal, second_implementation]
+TESTS = [first_build, older_programs, left_by_the_gate, failures, interrupt, two_at_once, at_a_terminal, second_implementation]

@@ -10,7 +10,7 @@ from pathlib import Path
 ROOT = Path(__file__).resolve().parent.parent.parent
 sys.path.insert(0, str(ROOT))
 CONSOLE = str(ROOT / "bin/console")
-PROGRAM = str(ROOT / "target/bin/console")
+PROGRAM = str(ROOT / "crates/console/out/console")
 # What does not come within so many seconds does not come.
 PATIENCE = 10
 

@@ -8,28 +8,31 @@ import sys
 import tempfile
 from pathlib import Path
 
-from common import PATIENCE, PROGRAM, ROOT, lines
+from common import PATIENCE, PROGRAM, ROOT
 
 CRATES = "# Three crates.\nlaws:\nconsole: laws io\nreplay: laws io\n"
 GIVEN, ANSWERS = b"00QA\r", b"00QA,+0\r"
-# It proves what has no stamp, and says much that no tool passes on. What a test puts at the place of `wait` and `end` comes before and after.
+# In a crate's folder it proves a program that has no stamp, and says much that no tool passes on. What a test puts at the place of `wait` and `end` comes before
+# and after, at the top.
 RT = f"""#!/bin/sh
-echo "$@" >>calls
+name=$(basename "$PWD")
+cd ../..
+echo "$name $1" >>calls
 cat >read
-mkdir -p target/bin target/stamp target/log
-echo 'fn laws::choose: proved'
-echo 'rt: laws proved (unchanged since it was last proved)'
+out=crates/$name/out
+mkdir -p $out
+echo "rt: $name: begins with what a check kept in another place"
 @wait@
-for name in console replay; do
-    [ -f target/stamp/$name ] && continue
-    cp '{PROGRAM}' target/bin/$name
-    echo 'logic=proved functions=1'
-    echo "rt: $name proved (3 s)"
-    echo "rt: $name ran as nobody, and wrote what its file 'stdout' has (0 s)"
-    touch target/stamp/$name
-done
+if [ $1 = run ]; then
+    if [ ! -x $out/$name ] || [ ! -f $out/$name.stamp ]; then
+        cp '{PROGRAM}' $out/$name
+        echo "fn $name::main: proved"
+        echo 'logic=proved functions=1'
+        touch $out/$name.stamp
+    fi
+    echo "rt: running out/$name; to give it other input, run that file yourself"
+fi
 @end@
-echo 'rt: ok, 3 crates proved'
 """
 
 
@@ -46,6 +49,10 @@ class Tree:
         self.source = self.root / "crates/laws/src/lib.rt"
         self.source.parent.mkdir(parents=True)
         self.source.write_text("")
+        for name in ["console", "replay"]:
+            written(self.root / "crates" / name / "src/main.rt", "")
+        self.program = self.root / "crates/console/out/console"
+        self.stamp = self.program.with_suffix(".stamp")
         self.tools = self.root / "tools"
         self.tools.mkdir()
 
@@ -57,8 +64,8 @@ class Tree:
 
     def programs(self, console):
         """Built: a console that is given as a script, and the second implementation as it is."""
-        written(self.root / "target/bin/console", console)
-        written(self.root / "target/stamp/console", "")
+        written(self.program, console)
+        written(self.stamp, "")
         other = self.root / "reference/target/release/reference"
         other.parent.mkdir(parents=True)
         shutil.copy(ROOT / "reference/target/release/reference", other)
@@ -73,9 +80,9 @@ class Tree:
         output, complaints = started.communicate(GIVEN, PATIENCE)
         return started.returncode, output, complaints.decode()
 
-    def calls(self):
-        """How often rt was called."""
-        return lines((self.root / "calls").read_text())
+    def builds(self):
+        """How often the lowest crate was given to rt."""
+        return (self.root / "calls").read_text().splitlines().count("laws lib")
 
 
 def written(path, text):
