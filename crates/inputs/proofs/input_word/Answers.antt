@@ -26,8 +26,8 @@ judged_px-requires c = tt
 pub returns : goal.returns
 unfolding judged_word input_word_at
 returns c = rw (
-      c.judged_es-stopped.ensures,
-      c.judged_ee-ended.ensures,
-      c.judged_st-begun.ensures,
-      c.inputs_of-inputs.ensures,
-    ) at c.judged_px.ensures
+  c.judged_es-stopped.ensures,
+  c.judged_ee-ended.ensures,
+  c.judged_st-begun.ensures,
+  c.inputs_of-inputs.ensures,
+) at c.judged_px.ensures

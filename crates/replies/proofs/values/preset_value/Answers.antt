@@ -22,19 +22,19 @@ returns-then-preset-eq2 c = simp (ne_eqb _ _ c.if-preset-eq0.false, ne_eqb _ _ c
 pub returns-then-preset-eq3 : goal.returns-then-preset-eq3
 unfolding preset_value choose
 returns-then-preset-eq3 c = simp (
-      ne_eqb _ _ c.if-preset-eq0.false,
-      ne_eqb _ _ c.if-preset-eq1.false,
-      ne_eqb _ _ c.if-preset-eq2.false,
-      eq-eqb _ _
-          c.if-preset-eq3.true,
-    ) c.bit.ensures
+  ne_eqb _ _ c.if-preset-eq0.false,
+  ne_eqb _ _ c.if-preset-eq1.false,
+  ne_eqb _ _ c.if-preset-eq2.false,
+  eq-eqb _ _
+      c.if-preset-eq3.true,
+) c.bit.ensures
 
 pub returns : goal.returns
 unfolding preset_value choose
 returns c = simp (
-      ne_eqb _ _ c.if-preset-eq0.false,
-      ne_eqb _ _ c.if-preset-eq1.false,
-      ne_eqb _ _ c.if-preset-eq2.false,
-      ne_eqb _ _
-          c.if-preset-eq3.false,
-    ) c.bit-2.ensures
+  ne_eqb _ _ c.if-preset-eq0.false,
+  ne_eqb _ _ c.if-preset-eq1.false,
+  ne_eqb _ _ c.if-preset-eq2.false,
+  ne_eqb _ _
+      c.if-preset-eq3.false,
+) c.bit-2.ensures

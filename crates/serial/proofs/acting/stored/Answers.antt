@@ -17,7 +17,7 @@ returns-then-same_content c = simp (eq-eqb _ _ c.if-at-state.false, sym c.same_c
 pub returns : goal.returns
 unfolding stored_state keeps_suspended choose either
 returns c = simp (
-      eq-eqb _ _ c.if-at-state.false,
-      sym c.same_content.ensures ∙ c.if-same_content.false,
-      c.emptied.ensures,
-    )
+  eq-eqb _ _ c.if-at-state.false,
+  sym c.same_content.ensures ∙ c.if-same_content.false,
+  c.emptied.ensures,
+)

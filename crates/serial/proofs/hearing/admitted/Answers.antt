@@ -16,7 +16,7 @@ returns-then-not-free c = simp (sym c.addressed.ensures ∙ c.if-not-addressed.f
 pub returns : goal.returns
 unfolding admitted both
 returns c = simp (
-      sym c.addressed.ensures ∙ c.if-not-addressed.false,
-      sym c.free.ensures ∙ c.if-not-free.false,
-      c.permitted.ensures,
-    )
+  sym c.addressed.ensures ∙ c.if-not-addressed.false,
+  sym c.free.ensures ∙ c.if-not-free.false,
+  c.permitted.ensures,
+)

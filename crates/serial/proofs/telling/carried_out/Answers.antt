@@ -22,10 +22,10 @@ answered-length-requires c = let a = c.args in
 
 pub acted-after-requires : goal.acted-after-requires
 acted-after-requires c = (
-      c.requires.1,
-      subst (λ (x : Cell). cell_sound x ≡ true) (sym c.named_cell-cell.ensures)
-          (named-sound c.args.command c.args.machine c.requires.0.sound),
-    )
+  c.requires.1,
+  subst (λ (x : Cell). cell_sound x ≡ true) (sym c.named_cell-cell.ensures)
+      (named-sound c.args.command c.args.machine c.requires.0.sound),
+)
 
 pub returns : goal.returns
 returns c =

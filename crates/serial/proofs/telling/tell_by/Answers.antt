@@ -27,10 +27,10 @@ returns-then-not-admitted c =
 pub carried_out-requires : goal.carried_out-requires
 unfolding admitted placed
 carried_out-requires c = (
-      c.requires.0,
-      subst Placed (sym c.allowed.ensures) (allowed-by Placed c.args.command c.args.machine.state c.requires.1 refl),
-      both_left _ _ (sym c.admitted.ensures ∙ c.if-not-admitted.false),
-    )
+  c.requires.0,
+  subst Placed (sym c.allowed.ensures) (allowed-by Placed c.args.command c.args.machine.state c.requires.1 refl),
+  both_left _ _ (sym c.admitted.ensures ∙ c.if-not-admitted.false),
+)
 
 pub returns : goal.returns
 unfolding admitted placed
