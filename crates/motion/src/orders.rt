@@ -25,6 +25,7 @@ pub fn signals(state: State) -> BoardSignals
 }
 
 // The steps that remain, 0 where none are counted.
+#[tactic(auto, unfolding(machine::specs::Orders::remaining_steps))]
 pub fn remaining_steps(remaining: Remaining) -> Steps
     ensures { result ≡ remaining_steps remaining }
 {
@@ -36,6 +37,7 @@ pub fn remaining_steps(remaining: Remaining) -> Steps
 }
 
 // Hz times m.
+#[tactic(auto, unfolding(laws::specs::Tests::choose, machine::specs::Orders::multiplied))]
 pub fn multiplied(hertz: u32, x4: bool) -> u32
     requires { WithinHertz hertz }
     ensures { result ≡ multiplied_of hertz x4 }
@@ -46,6 +48,7 @@ pub fn multiplied(hertz: u32, x4: bool) -> u32
     hertz
 }
 
+#[tactic(auto, unfolding(machine::specs::Orders::run_order))]
 fn run_order(phase: Phase, state: State, profile: Profile) -> BoardOrder
     requires { WithinHertz profile.hertz }
     ensures { result ≡ run_order phase state profile }
@@ -65,6 +68,7 @@ fn run_order(phase: Phase, state: State, profile: Profile) -> BoardOrder
     }
 }
 
+#[tactic(auto, unfolding(machine::specs::Orders::order_in))]
 fn backing_off(state: State, profile: Profile) -> BoardOrder
     ensures { result ≡ order_in BackOff state profile }
 {
@@ -79,6 +83,7 @@ fn backing_off(state: State, profile: Profile) -> BoardOrder
 }
 
 // The order, given the present cell.
+#[tactic(auto, unfolding(machine::specs::Orders::order_at))]
 pub fn board_order(state: State, cell: Cell) -> BoardOrder
     requires { cell_sound cell ≡ true }
     ensures { result ≡ order_at state cell }
@@ -89,6 +94,7 @@ pub fn board_order(state: State, cell: Cell) -> BoardOrder
 }
 
 // The order: stand outside a run, slow in both slowings, else the run.
+#[tactic(auto, unfolding(machine::specs::Orders::order_in))]
 pub fn order(state: State, profile: Profile) -> BoardOrder
     requires { WithinHertz profile.hertz }
     ensures { result ≡ order_in state.running.phase state profile }

@@ -26,6 +26,7 @@ fn runs_or_brakes(phase: Phase) -> bool
 }
 
 // Whether at-speed is expected: in the run or braking of a ramp run.
+#[tactic(auto, unfolding(laws::specs::Tests::choose, machine::specs::Reports::takes_at_speed_in))]
 pub fn takes_at_speed(phase: Phase, profile: Profile) -> bool
     ensures { result ≡ takes_at_speed_in phase profile }
 {
@@ -68,6 +69,7 @@ pub fn takes_halted(state: State) -> bool
 }
 
 // A zero search goes back until PX is off.
+#[tactic(auto, unfolding(laws::specs::Tests::choose, machine::specs::Reports::halted_slowing))]
 fn search_halted(state: State, next: CellAddress) -> State
     ensures { result ≡ halted_slowing SearchRun state next }
 {
@@ -77,6 +79,7 @@ fn search_halted(state: State, next: CellAddress) -> State
     advanced(state, next)
 }
 
+#[tactic(auto, unfolding(machine::specs::Reports::halted_slowing))]
 fn slowing_halted(motion: Motion, state: State, next: CellAddress) -> State
     ensures { result ≡ halted_slowing motion state next }
 {
@@ -91,6 +94,7 @@ fn slowing_halted(motion: Motion, state: State, next: CellAddress) -> State
 }
 
 // The program ends; of a 05 nothing is left to resume.
+#[tactic(auto, unfolding(machine::specs::Reports::halted_emergency))]
 fn emergency_halted(motion: Motion, state: State) -> State
     ensures { result ≡ halted_emergency motion state }
 {
@@ -105,6 +109,7 @@ fn emergency_halted(motion: Motion, state: State) -> State
 }
 
 // The motor stands after slowing.
+#[tactic(auto, unfolding(machine::specs::Reports::halted_in))]
 pub fn halted(motion: Motion, state: State, next: CellAddress) -> State
     ensures { result ≡ halted_in state.running.phase motion state next }
 {

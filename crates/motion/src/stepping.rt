@@ -38,6 +38,7 @@ fn motion_backward(profile: Profile, remaining: Remaining) -> bool
 }
 
 // Whether a run goes back in this phase; backing off goes against its direction.
+#[tactic(auto, unfolding(machine::specs::Stepping::backward_in))]
 pub fn backward_in(phase: Phase, profile: Profile, remaining: Remaining) -> bool
     ensures { result ≡ backward_in phase profile remaining }
 {
@@ -54,6 +55,7 @@ pub fn backward_in(phase: Phase, profile: Profile, remaining: Remaining) -> bool
 }
 
 // A set cam at the position complements O3 and is unset.
+#[tactic(auto, unfolding(laws::specs::Tests::both, laws::specs::Tests::choose, machine::specs::Stepping::cam_tested))]
 pub fn cam_tested(mut state: State) -> State
     ensures { result ≡ cam_tested state }
 {
@@ -76,6 +78,7 @@ pub fn cam_tested(mut state: State) -> State
 }
 
 // The position one step on or back, and the cam tested there.
+#[tactic(auto, unfolding(machine::specs::Stepping::moved_by))]
 pub fn moved_by(backward: bool, mut state: State) -> State
     ensures { result ≡ moved_by backward state }
 {
@@ -86,6 +89,7 @@ pub fn moved_by(backward: bool, mut state: State) -> State
 }
 
 // None remain: the program goes on, or ends if it was slowing for an emergency stop.
+#[tactic(auto, unfolding(machine::specs::Stepping::arrived_in))]
 pub fn arrived_in(phase: Phase, state: State, next: CellAddress) -> State
     ensures { result ≡ arrived_in phase state next }
 {
@@ -102,6 +106,7 @@ pub fn arrived_in(phase: Phase, state: State, next: CellAddress) -> State
 }
 
 // One less of the steps that remain.
+#[tactic(auto, unfolding(laws::specs::Tests::choose, machine::specs::Stepping::counted))]
 fn counted_steps(n: Steps, state: State, next: CellAddress) -> State
     ensures { result ≡ counted_of (Counted n) state next }
 {
@@ -115,6 +120,7 @@ fn counted_steps(n: Steps, state: State, next: CellAddress) -> State
 }
 
 // One less of what remains, if steps are counted.
+#[tactic(auto, unfolding(machine::specs::Stepping::counted))]
 pub fn counted(remaining: Remaining, state: State, next: CellAddress) -> State
     ensures { result ≡ counted_of remaining state next }
 {
@@ -126,6 +132,7 @@ pub fn counted(remaining: Remaining, state: State, next: CellAddress) -> State
 }
 
 // A step of the run of the present cell.
+#[tactic(auto, unfolding(machine::specs::Stepping::step_at, machine::specs::Stepping::runs_backward))]
 pub fn step(state: State, cell: Cell) -> State
     ensures { result ≡ step_at state cell }
 {
