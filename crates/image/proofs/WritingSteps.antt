@@ -7,7 +7,7 @@ use mathlib.Core.Bool.{true, false}
 use mathlib.Core.List.{List, ◌++◌}
 use lib.Dec.{ltb}
 use lib.ListN.{length, take, drop, replicate, length-append, length-take}
-use lib.Seq.{length-sets, take-append_seam, take-length}
+use lib.Seq.{length-sets, take-append_seam}
 use borrow.Author.Tests.{lt-ltb, le-ltb}
 use Rattle.laws.specs.Tests.{choose, both, same}
 use Rattle.laws.specs.Writing.{Put}
@@ -127,7 +127,6 @@ module _ (m : Machine) (buffer space space' : List ℕ) (n : ℕ) (t : sound m �
   -- and copied from there
   pub put-copied :
       (later : List ℕ) → length (image_of m) ≤ length space → n ≤ length buffer →
-      later ≡ take (length (take n space')) (take n space') ++ drop (length (take n space')) buffer → later ≡ buffer_written buffer m
+      later ≡ take n space' ++ drop (length (take n space')) buffer → later ≡ buffer_written buffer m
   put-copied later h r e =
-      e ∙ ap (λ (x : List ℕ). take (length x) x ++ drop (length x) buffer) (image-front m space space' n h p)
-      ∙ ap (λ (x : List ℕ). x ++ drop (length (image_of m)) buffer) (take-length (image_of m)) ∙ buffer-filled m buffer n (put_whole r)
+      e ∙ ap (λ (x : List ℕ). x ++ drop (length x) buffer) (image-front m space space' n h p) ∙ buffer-filled m buffer n (put_whole r)
