@@ -38,6 +38,7 @@ fn bit(on: bool) -> u8
 }
 
 // The cell that S0 to S3 select.
+#[tactic(auto, unfolding(machine::specs::InputWords::selected_cell))]
 pub fn selected_cell(state: State) -> CellAddress
     ensures { result ≡ selected_cell state }
 {
@@ -49,6 +50,7 @@ pub fn selected_cell(state: State) -> CellAddress
 }
 
 // Whether ST starts a program: judged on the drive before the word, with the word's other inputs.
+#[tactic(auto, unfolding(laws::specs::Tests::both, machine::specs::InputWords::starts))]
 pub fn starts(before: State, state: State) -> bool
     ensures { result ≡ starts_of before state }
 {
@@ -70,6 +72,7 @@ pub fn starts(before: State, state: State) -> bool
     true
 }
 
+#[tactic(auto, unfolding(laws::specs::Tests::choose, machine::specs::InputWords::judged_st))]
 pub fn judged_st(before: State, state: State) -> State
     ensures { result ≡ judged_st before state }
 {
@@ -80,6 +83,7 @@ pub fn judged_st(before: State, state: State) -> State
     state
 }
 
+#[tactic(auto, unfolding(laws::specs::Tests::choose, machine::specs::InputWords::judged_ee))]
 pub fn judged_ee(state: State, cell: Cell) -> State
     ensures { result ≡ judged_ee state cell }
 {
@@ -89,6 +93,7 @@ pub fn judged_ee(state: State, cell: Cell) -> State
     state
 }
 
+#[tactic(auto, unfolding(laws::specs::Tests::choose, machine::specs::InputWords::judged_es, machine::specs::Stopping::free_run_stop_at))]
 pub fn judged_es(state: State, cell: Cell) -> State
     requires { cell_sound cell ≡ true }
     ensures { result ≡ judged_es state cell }
@@ -101,6 +106,7 @@ pub fn judged_es(state: State, cell: Cell) -> State
     state
 }
 
+#[tactic(auto, unfolding(machine::specs::InputWords::judged_px, machine::specs::Stopping::px_seen_at))]
 pub fn judged_px(state: State, cell: Cell) -> State
     ensures { result ≡ judged_px state cell }
 {
@@ -111,6 +117,7 @@ pub fn judged_px(state: State, cell: Cell) -> State
 }
 
 // An inputs word: ST, then EE, ES and PX, at the cell that is present before it.
+#[tactic(auto, unfolding(machine::specs::InputWords::judged_word, machine::specs::InputWords::input_word_at))]
 pub fn input_word(word: u16, state: State, cell: Cell) -> State
     requires { cell_sound cell ≡ true }
     ensures { result ≡ input_word_at word state cell }

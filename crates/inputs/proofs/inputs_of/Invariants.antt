@@ -1,13 +1,10 @@
 -- `inputs_of` meets its contract. Invariant: the bits stored so far, and then those of what is left of the word, are the bits of the word.
 -- Measure: the bits not yet stored. Assumes nothing.
-use Prim.Native.Nat.{ℕ, ◌+◌, ◌-◌, ◌≤◌, ◌<◌}
-use native.Mathlib.Omega.{arith}
-use mathlib.Core.Path.{◌≡◌, refl, sym, ◌∙◌}
-use mathlib.Core.List.{List, ◌++◌}
-use lib.ListN.{length, take, length-set}
-use borrow.Author.Rules.{rules}
-use Rattle.machine.specs.InputWords.{bits_from, inputs_of}
-use Rattle.inputs.proofs.Bits.{bits-turn, bits-end}
+use Prim.Native.Nat.{◌+◌, ◌-◌, ◌≤◌}
+use mathlib.Core.Path.{◌≡◌}
+use mathlib.Core.List.{◌++◌}
+use lib.ListN.{length, take}
+use Rattle.machine.specs.InputWords.{bits_from}
 use Rattle.inputs.proofs.inputs_of.Given as goal
 
 abbrev pub invariant-loop-i : goal.invariant-loop-i
