@@ -10,12 +10,15 @@ use Rattle.laws.proofs.Tests.{choose-true, choose-false}
 use Rattle.instruction.specs.Runs.{profile_of}
 use Rattle.instruction.specs.declared.Cell.{Cell}
 use Rattle.instruction.specs.declared.run.Profile.{Profile}
+use Rattle.machine.specs.Record.{with_state}
 use Rattle.machine.specs.Milliseconds.{present, held, millisecond_at, millisecond}
+use Rattle.machine.specs.Stepping.{step_at, step}
+use Rattle.machine.specs.InputWords.{input_word_at, input_word}
 use Rattle.machine.specs.Orders.{order_at, order_of}
-use Rattle.machine.specs.Reports.{takes_at_speed_in, takes_at_speed_at, halted_in, halted_at}
+use Rattle.machine.specs.Reports.{takes_at_speed_in, takes_at_speed_at, takes_at_speed, halted_in, halted_at, halted}
 use Rattle.machine.specs.Waiting.{wait}
 use Rattle.machine.specs.Strings.{told}
-use Rattle.machine.specs.Calls.{answered, waited, act}
+use Rattle.machine.specs.Calls.{done, answered, waited, act}
 use Rattle.machine.specs.Calls.Call.{SendString}
 use Rattle.machine.specs.Operations.{filled}
 use Rattle.machine.specs.declared.State.{State}
@@ -23,13 +26,31 @@ use Rattle.machine.specs.declared.Machine.{Machine}
 use Rattle.machine.specs.declared.answers.BoardOrder.{BoardOrder}
 use Rattle.waits.specs.Waiting.{ran_of}
 use Rattle.waits.specs.declared.Ran.{Ran}
+use Rattle.machine.proofs.Words.{input-word-present}
 use Rattle.operations.specs.declared.results.Refusal.TheVariants.{None, ShortBuffer}
+use Rattle.operations.specs.declared.results.Acted.{Acted}
 use Rattle.operations.specs.declared.results.Answered.{Answered}
 use Rattle.operations.specs.declared.results.Ending.TheVariants.{Ended}
 use Rattle.operations.specs.declared.results.Passed.{Passed}
-use Rattle.operations.specs.Results.{number_of, Answering, shown_during, ending_as, passed_on}
+use Rattle.operations.specs.Results.{number_of, acted_on, Answering, shown_during, ending_as, passed_on}
 
--- a millisecond and the order, at the present cell
+abbrev acted_with : State → Acted
+acted_with s = record { refusal = None; state = s }
+
+-- an event that is taken
+pub taken_as : (m : Machine) {s t : State} → s ≡ t → acted_on m (acted_with s) ≡ done (with_state m t)
+unfolding acted_on number_of
+taken_as m e = ap (λ (s : State). done (with_state m s)) e
+
+-- a step, an inputs word, a millisecond and the order, at the present cell
+pub step-at : (cells : List Cell) (s : State) {c : Cell} {r : State} → present cells s ≡ c → r ≡ step_at s c → r ≡ step cells s
+unfolding step
+step-at cells s e t = rw e t
+
+pub word_at :
+    (w : ℕ) (cells : List Cell) (s : State) {c : Cell} {r : State} → present cells s ≡ c → r ≡ input_word_at w s c → r ≡ input_word w cells s
+word_at w cells s {c} e t = t ∙ input-word-present w cells s c e
+
 pub time-at :
     (cells : List Cell) (s : State) {c h : Cell} {r : State} → present cells s ≡ c → held cells s ≡ h → r ≡ millisecond_at s c h →
     r ≡ millisecond cells s
@@ -40,19 +61,19 @@ pub order-at : (cells : List Cell) (s : State) {c : Cell} {r : BoardOrder} → p
 unfolding order_of
 order-at cells s e t = rw e t
 
--- at-speed, judged by the cell's profile
+-- at-speed, judged at the present cell
 pub takes_at :
-    (s : State) (c : Cell) {p : Profile} {b : Bool} → p ≡ profile_of c.instruction → takes_at_speed_in s.running.phase p ≡ b →
-    takes_at_speed_at s c ≡ b
-unfolding takes_at_speed_at
-takes_at s c q t = rw (← q) t
+    (cells : List Cell) (s : State) {c : Cell} {p : Profile} {b : Bool} → present cells s ≡ c → p ≡ profile_of c.instruction →
+    takes_at_speed_in s.running.phase p ≡ b → takes_at_speed cells s ≡ b
+unfolding takes_at_speed takes_at_speed_at
+takes_at cells s e q t = rw (e, ← q) t
 
--- halted, by the cell's motion
+-- halted, at the present cell
 pub halted-at :
-    (s : State) (c : Cell) {p : Profile} {r : State} → p ≡ profile_of c.instruction →
-    r ≡ halted_in s.running.phase p.motion s c.next → r ≡ halted_at s c
-unfolding halted_at
-halted-at s c q t = rw (← q) t
+    (cells : List Cell) (s : State) {c : Cell} {p : Profile} {r : State} → present cells s ≡ c → p ≡ profile_of c.instruction →
+    r ≡ halted_in s.running.phase p.motion s c.next → r ≡ halted cells s
+unfolding halted halted_at
+halted-at cells s e q t = rw (e, ← q) t
 
 abbrev passed_with : Ran → Passed
 passed_with r = record { refusal = None; ending = Ended r.end r.given; state = r.state }

@@ -1,4 +1,4 @@
--- What an event comes to at the present cell is the outcome of its call.
+-- What the lower crates give of an event at a cell in hand; and what an event comes to at the present cell is the outcome of its call.
 -- Assumes nothing.
 use Prim.Native.Nat.{ℕ}
 use mathlib.Core.Path.{◌≡◌, refl, sym, ap, ◌∙◌}
@@ -7,12 +7,14 @@ use mathlib.Core.List.{List}
 use lib.Dec.{ltb}
 use Rattle.laws.specs.Tests.{choose}
 use Rattle.laws.proofs.Tests.{choose-map}
+use Rattle.instruction.specs.Runs.{profile_of}
 use Rattle.instruction.specs.declared.Cell.{Cell}
+use Rattle.instruction.specs.declared.run.Profile.{Profile}
 use Rattle.machine.specs.Record.{with_state, moving}
 use Rattle.machine.specs.Milliseconds.{present}
 use Rattle.machine.specs.Stepping.{step_at, step}
 use Rattle.machine.specs.InputWords.{input_word_at, input_word}
-use Rattle.machine.specs.Reports.{takes_at_speed_at, takes_at_speed, at_speed, takes_halted, halted_at, halted}
+use Rattle.machine.specs.Reports.{takes_at_speed_in, takes_at_speed_at, takes_at_speed, at_speed, takes_halted, halted_in, halted_at, halted}
 use Rattle.machine.specs.Calls.{Outcome, done, refused, act}
 use Rattle.machine.specs.Calls.Call.{SetInputs, Step, AtSpeed, Halted}
 use Rattle.machine.specs.declared.State.{State}
@@ -21,6 +23,20 @@ use Rattle.machine.proofs.Words.{input-word-present}
 use Rattle.operations.specs.declared.results.Acted.{Acted}
 use Rattle.operations.specs.Results.{number_of, acted_on}
 use Rattle.operations.specs.Events.{taken_as, refused_as, stepped_at, at_speed_at, halted_on, worded_at}
+
+-- at-speed, judged by the cell's profile
+pub takes-at-cell :
+    (s : State) (c : Cell) {p : Profile} {b : Bool} → p ≡ profile_of c.instruction → takes_at_speed_in s.running.phase p ≡ b →
+    takes_at_speed_at s c ≡ b
+unfolding takes_at_speed_at
+takes-at-cell s c q t = rw (← q) t
+
+-- halted, by the cell's motion
+pub halted-at-cell :
+    (s : State) (c : Cell) {p : Profile} {r : State} → p ≡ profile_of c.instruction →
+    r ≡ halted_in s.running.phase p.motion s c.next → r ≡ halted_at s c
+unfolding halted_at
+halted-at-cell s c q t = rw (← q) t
 
 -- a choice of what is handed back, as the choice of outcomes
 chosen-as : (m : Machine) (b : Bool) (x y : Acted) → acted_on m (choose b x y) ≡ choose b (acted_on m x) (acted_on m y)
