@@ -1,6 +1,6 @@
 -- Pieces of text gathered one after the other.
 -- Assumes nothing.
-use Rattle.std.proofs.Common.{◌≡◌, ℕ, suc, ◌+◌, ◌-◌, ◌*◌, ◌%◌, ◌<◌, ◌≤◌, min, Bool, false, List, [], ◌∷◌, ◌++◌, length, get_or, take, drop, sym, refl, ap, ◌∙◌, subst, ⊎_elim, append_assoc, append-nil, mul-le-mul, add-one, arith, length-drop, take-append-drop, length-take, get_or-drop, take_all, drop-cons, take-suc}
+use Rattle.std.proofs.Common.{◌≡◌, ℕ, suc, ◌+◌, ◌-◌, ◌<◌, ◌≤◌, min, Bool, false, List, [], ◌∷◌, ◌++◌, length, get_or, take, drop, sym, refl, ap, ◌∙◌, subst, ⊎_elim, append_assoc, append-nil, add-one, arith, length-drop, take-append-drop, length-take, get_or-drop, take_all, drop-cons, take-suc}
 use lib.Seq.{take-length, drop-length}
 use Rattle.laws.proofs.Tests.{lt-or-le}
 use Rattle.lines.specs.Gathering.{gathered, Gathered, bit_text}
@@ -101,9 +101,3 @@ sum-next a s i h = rw (add-one i, drop-cons s i 0 h) refl
 pub sum-end : (a : Sum) (s : List ℕ) (i : ℕ) → i ≡ length s → with_all a (drop i s) ≡ a
 unfolding with_all
 sum-end a s i e = rw (e, drop-length s) refl
-
--- a weight times a byte fits
-pub weighted-small : (n b : ℕ) → b ≤ 255 → n % 1000003 * b ≤ 1000003 * 255
-weighted-small n b h =
-    let a : n % 1000003 ≤ 1000003 = omega arith in
-    mul-le-mul a h

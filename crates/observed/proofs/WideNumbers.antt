@@ -1,10 +1,9 @@
--- Net steps as text: the digits of a wide number, nine at a time, the size of an i64, and its sign.
+-- Net steps as text: the digits of a wide number, nine at a time, and the sign of an i64.
 -- Assumes nothing.
-use Rattle.std.proofs.Common.{◌≡◌, ℕ, zero, suc, ◌+◌, ◌*◌, ◌/◌, ◌%◌, ◌^◌, ◌<◌, ◌≤◌, true, false, T, ltb, List, [], ◌∷◌, ◌++◌, ℤ, pos, negsuc, ◌+ℤ◌, ◌-ℤ◌, neg_ℤ, nat_abs, sym, refl, ap, ◌∙◌, subst, ap₂, ⊎_elim, not-suc-le-zero, mod-lt, mod-eq_of_lt, div-lt_iff_lt-mul, le-div_iff_mul-le, arith, pow-add, to_z-of_z, w64, Fits, SFits, to_z, of_z, ltb-true, le-ltb, lt-ltb}
+use Rattle.std.proofs.Common.{◌≡◌, ℕ, zero, suc, ◌+◌, ◌*◌, ◌/◌, ◌%◌, ◌^◌, ◌<◌, ◌≤◌, true, false, ltb, List, [], ◌∷◌, ◌++◌, ℤ, pos, negsuc, sym, refl, ap, ◌∙◌, subst, ap₂, ⊎_elim, not-suc-le-zero, mod-lt, mod-eq_of_lt, div-lt_iff_lt-mul, le-div_iff_mul-le, arith, pow-add, ltb-true, le-ltb, lt-ltb}
 use native.Mathlib.Nat.{div-div-eq-div-mul}
 use lib.Arith.{digits_div, digits_mod, mod-mul}
-use lib.IntN.{+ℤ_one, +ℤ_idl}
-use lib.Signed.{lt_z, mag, non_neg}
+use lib.Signed.{lt_z}
 use Rattle.laws.specs.Tests.{choose}
 use Rattle.laws.proofs.Tests.{choose-true, choose-false, lt-or-le}
 use Rattle.decimal.specs.Printing.{digits, width_from, width, decimal}
@@ -98,35 +97,6 @@ wide-append n l h =
     width_from-nine n l ∙ width_from-upper 10 1 9 n ∙ ap (λ (k : ℕ). k + 9) (sym (width_from-further 10 9 1 q (omega arith))) in
     ap (λ (k : ℕ). digits k n) size
     ∙ digits_append (width_from 19 1 q) 9 n (subst (λ (k : ℕ). n < 10 ^ k) size (width_from-holds 19 1 n h))
-
--- ---- the size of an i64: of a negative one it is that of one more, which has a negative, and one
-
-pub negative-up : (z : ℤ) → lt_z z (pos 0) ≡ true → z +ℤ pos 1 ≡ neg_ℤ (pos (mag z))
-negative-up (pos n) t = absurd (not-suc-le-zero (ltb-true n 0 t))
-negative-up (negsuc zero) t = refl
-negative-up (negsuc (suc n)) t = +ℤ_one (negsuc (suc n))
-
-neg-neg : (k : ℕ) → pos 0 -ℤ neg_ℤ (pos k) ≡ pos k
-neg-neg zero = refl
-neg-neg (suc k) = +ℤ_idl (pos (suc k))
-
-pub sfits_back : (k : ℕ) → k < 2 ^ 63 → SFits w64 (neg_ℤ (pos k))
-sfits_back zero h = record { sfits = omega arith }
-sfits_back (suc k) h = record { sfits = omega arith }
-
-pub sfits-size : (z : ℤ) → SFits w64 z → SFits w64 (pos (mag z))
-sfits-size z s = record { sfits = s.sfits }
-
-pub negative-turned : (z : ℤ) → SFits w64 z → lt_z z (pos 0) ≡ true → pos 0 -ℤ to_z w64 (of_z w64 (z +ℤ pos 1)) ≡ pos (mag z)
-negative-turned z s t = rw (negative-up z t, to_z-of_z (sfits_back (mag z) s.sfits)) (neg-neg (mag z))
-
-pub nat_abs-negative : (z : ℤ) → lt_z z (pos 0) ≡ true → mag z + 1 ≡ nat_abs z
-nat_abs-negative (pos n) t = absurd (not-suc-le-zero (ltb-true n 0 t))
-nat_abs-negative (negsuc n) t = omega arith
-
-pub fits-forward : (z : ℤ) → SFits w64 z → lt_z z (pos 0) ≡ false → T (non_neg z) × Fits w64 (nat_abs z)
-fits-forward (pos n) s t = (tt, record { fits = omega (arith, s.sfits) })
-fits-forward (negsuc n) s t = let e : ◌≡◌ {A = ℕ} 0 1 = cc in absurd (omega arith)
 
 -- ---- the sign
 

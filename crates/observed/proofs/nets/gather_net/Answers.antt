@@ -1,6 +1,6 @@
 -- `nets::gather_net` meets its contract: the sign, then the size.
 -- Assumes nothing.
-use Rattle.std.proofs.Common.{sym, ap, rules}
+use Rattle.std.proofs.Common.{sym, ap}
 use Rattle.lines.proofs.Pieces.{gathered-then}
 use Rattle.observed.specs.Nets.{wide_text, net_text}
 use Rattle.observed.proofs.Texts.{gathered-as}

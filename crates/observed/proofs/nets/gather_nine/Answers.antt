@@ -1,6 +1,6 @@
 -- `nets::gather_nine` meets its contract: the nine digits fill the nine bytes.
 -- Assumes nothing.
-use Rattle.std.proofs.Common.{sym, ◌∙◌, append-nil, arith, rules}
+use Rattle.std.proofs.Common.{sym, ◌∙◌, append-nil, arith}
 use Rattle.laws.proofs.Writing.{put_front}
 use Rattle.decimal.specs.Printing.{digits}
 use Rattle.decimal.proofs.Printing.{length_digits}

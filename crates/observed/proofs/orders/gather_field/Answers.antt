@@ -3,7 +3,6 @@
 use Rattle.laws.specs.Text.{bytes}
 use Rattle.lines.proofs.Pieces.{gathered-then}
 use Rattle.observed.specs.Orders.{field_text}
-use Rattle.std.proofs.Common.{rules}
 use Rattle.observed.proofs.orders.gather_field.Goals as goal
 
 pub returns : goal.returns

@@ -1,6 +1,6 @@
 -- `observed::orders::gather_flag` meets its contract.
 -- Assumes nothing.
-use Rattle.std.proofs.Common.{ap, rules}
+use Rattle.std.proofs.Common.{ap}
 use Rattle.laws.specs.Text.{bytes}
 use Rattle.observed.specs.Orders.{flag_text}
 use Rattle.observed.proofs.Texts.{gathered-as}

@@ -1,6 +1,6 @@
 -- `observed::orders::gather_order` meets its contract.
 -- Assumes nothing.
-use Rattle.std.proofs.Common.{ap, rules}
+use Rattle.std.proofs.Common.{ap}
 use Rattle.laws.specs.Text.{bytes}
 use Rattle.lines.proofs.Pieces.{gathered-then}
 use Rattle.observed.specs.Orders.{order_text}

@@ -1,6 +1,6 @@
 -- `observed::orders::gather_run` meets its contract.
 -- Assumes nothing.
-use Rattle.std.proofs.Common.{sym, ap, rules}
+use Rattle.std.proofs.Common.{sym, ap}
 use Rattle.laws.specs.Text.{bytes}
 use Rattle.decimal.specs.Printing.{signed}
 use Rattle.lines.proofs.Pieces.{gathered-then}

@@ -2,7 +2,6 @@
 -- Assumes nothing.
 use Rattle.lines.proofs.Pieces.{gathered-then}
 use Rattle.observed.specs.Orders.{signals_text}
-use Rattle.std.proofs.Common.{rules}
 use Rattle.observed.proofs.orders.gather_signals.Goals as goal
 
 pub returns : goal.returns

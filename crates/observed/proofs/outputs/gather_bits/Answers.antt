@@ -1,8 +1,7 @@
--- Invariant: the bits of the places passed are gathered. Measure: the places left.
+-- `observed::outputs::gather_bits` meets its contract: one bit more at each turn.
 -- Assumes nothing.
-use Rattle.std.proofs.Common.{◌≡◌, ℕ, ◌-◌, ◌≤◌, take, drop, sym, ap, arith, rules}
-use Rattle.lines.specs.Gathering.{Gathered}
-use Rattle.lines.proofs.Pieces.{gathered-then, gathered-length}
+use Rattle.std.proofs.Common.{◌≡◌, ℕ, ◌-◌, take, drop, ap, arith}
+use Rattle.lines.proofs.Pieces.{gathered-then}
 use Rattle.observed.specs.Outputs.{bits_text}
 use Rattle.observed.proofs.Texts.{gathered-as, gathered_none, bits-next}
 use Rattle.observed.proofs.outputs.gather_bits.Goals as goal

@@ -1,10 +1,8 @@
 -- Invariant: the bits of the places passed are gathered. Measure: the places left.
 -- Assumes nothing.
-use Rattle.std.proofs.Common.{◌≡◌, ℕ, ◌-◌, ◌≤◌, take, drop, sym, ap, arith, rules}
+use Rattle.std.proofs.Common.{◌-◌, ◌≤◌, take, drop}
 use Rattle.lines.specs.Gathering.{Gathered}
-use Rattle.lines.proofs.Pieces.{gathered-then, gathered-length}
 use Rattle.observed.specs.Outputs.{bits_text}
-use Rattle.observed.proofs.Texts.{gathered-as, gathered_none, bits-next}
 use Rattle.observed.proofs.outputs.gather_bits.Given as goal
 
 abbrev pub invariant-loop-i : goal.invariant-loop-i

@@ -2,7 +2,6 @@
 -- Assumes nothing.
 use Rattle.lines.proofs.Pieces.{gathered-then}
 use Rattle.observed.specs.Outputs.{outputs_text}
-use Rattle.std.proofs.Common.{rules}
 use Rattle.observed.proofs.outputs.gather_outputs.Goals as goal
 
 pub returns : goal.returns

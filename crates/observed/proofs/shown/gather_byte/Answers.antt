@@ -1,6 +1,6 @@
 -- `observed::shown::gather_byte` meets its contract.
 -- Assumes nothing.
-use Rattle.std.proofs.Common.{ℕ, ◌/◌, ◌%◌, [], ◌∷◌, sym, ap, ◌∙◌, rules}
+use Rattle.std.proofs.Common.{ℕ, ◌%◌, [], ◌∷◌, sym, ap, ◌∙◌}
 use Rattle.laws.proofs.Tests.{choose-true, choose-false}
 use Rattle.observed.specs.Shown.{digit, shown_byte}
 use Rattle.observed.proofs.Texts.{gathered-as}

@@ -1,9 +1,7 @@
--- Invariant: the bytes passed are gathered as digits. Measure: the bytes left.
+-- `observed::shown::gather_hex` meets its contract: one byte more at each turn.
 -- Assumes nothing.
-use Rattle.std.proofs.Common.{◌≡◌, ℕ, ◌-◌, ◌≤◌, length, take, sym, ap, ◌∙◌, arith}
-use lib.Seq.{take-length}
-use Rattle.lines.specs.Gathering.{Gathered}
-use Rattle.lines.proofs.Pieces.{gathered-then, gathered-length}
+use Rattle.std.proofs.Common.{arith}
+use Rattle.lines.proofs.Pieces.{gathered-then}
 use Rattle.observed.specs.Shown.{hex_text}
 use Rattle.observed.proofs.Texts.{gathered-as, gathered_none, hex-next}
 use Rattle.observed.proofs.shown.gather_hex.Goals as goal

@@ -1,6 +1,6 @@
 -- `observed::shown::gather_pair` meets its contract.
 -- Assumes nothing.
-use Rattle.std.proofs.Common.{ℕ, ◌/◌, ◌%◌, [], ◌∷◌, sym, ap, ap₂, rules}
+use Rattle.std.proofs.Common.{ℕ, [], ◌∷◌, sym, ap₂}
 use Rattle.observed.specs.Shown.{pair_text}
 use Rattle.observed.proofs.Texts.{gathered-as}
 use Rattle.observed.proofs.shown.gather_pair.Goals as goal

@@ -1,9 +1,7 @@
--- Invariant: the bytes passed are gathered as they are shown. Measure: the bytes left.
+-- `observed::shown::gather_shown` meets its contract: one byte more at each turn.
 -- Assumes nothing.
-use Rattle.std.proofs.Common.{◌≡◌, ℕ, ◌-◌, ◌≤◌, length, take, sym, ap, ◌∙◌, arith}
-use lib.Seq.{take-length}
-use Rattle.lines.specs.Gathering.{Gathered}
-use Rattle.lines.proofs.Pieces.{gathered-then, gathered-length}
+use Rattle.std.proofs.Common.{arith}
+use Rattle.lines.proofs.Pieces.{gathered-then}
 use Rattle.observed.specs.Shown.{shown}
 use Rattle.observed.proofs.Texts.{gathered-as, gathered_none, shown-next}
 use Rattle.observed.proofs.shown.gather_shown.Goals as goal

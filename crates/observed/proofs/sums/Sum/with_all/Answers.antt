@@ -1,6 +1,6 @@
--- Invariant: the sum so far, with the bytes left, is the whole. Measure: the bytes left.
+-- `observed::sums::Sum::with_all` meets its contract: one byte more at each turn.
 -- Assumes nothing.
-use Rattle.std.proofs.Common.{◌≡◌, ◌+◌, ◌-◌, ◌≤◌, length, drop, sym, refl, ap, ◌∙◌, arith}
+use Rattle.std.proofs.Common.{◌+◌, drop, sym, ap, ◌∙◌, arith}
 use Rattle.observed.specs.Sums.{with_all}
 use Rattle.observed.specs.declared.sums.Sum.{Sum}
 use Rattle.observed.proofs.Texts.{sum-next, sum-end}

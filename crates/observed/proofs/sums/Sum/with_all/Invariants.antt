@@ -1,9 +1,7 @@
 -- Invariant: the sum so far, with the bytes left, is the whole. Measure: the bytes left.
 -- Assumes nothing.
-use Rattle.std.proofs.Common.{◌≡◌, ◌+◌, ◌-◌, ◌≤◌, length, drop, sym, refl, ap, ◌∙◌, arith}
+use Rattle.std.proofs.Common.{◌≡◌, ◌-◌, ◌≤◌, length, drop}
 use Rattle.observed.specs.Sums.{with_all}
-use Rattle.observed.specs.declared.sums.Sum.{Sum}
-use Rattle.observed.proofs.Texts.{sum-next, sum-end}
 use Rattle.observed.proofs.sums.Sum.with_all.Given as goal
 
 abbrev pub invariant-loop-i : goal.invariant-loop-i
