@@ -1,6 +1,6 @@
 -- Each way through reading a cell's text, and each piece of printing it.
 -- Assumes nothing.
-use Prim.Native.Nat.{ℕ}
+use Prim.Native.Nat.{ℕ, ◌≤◌}
 use native.Mathlib.Omega.{arith}
 use mathlib.Core.Path.{◌≡◌, ap, sym, ◌∙◌}
 use mathlib.Core.Bool.{true, false}
@@ -26,6 +26,9 @@ use Rattle.format.proofs.Entries.{formats-good, known-format, kinds-format, few-
 use Rattle.instruction.proofs.Sending.{valid-code, good-code}
 
 -- ---- reading
+
+pub few-code : (r : Row) → r ≡ code_row → r.count ≤ 6
+few-code r e = rw e (omega arith)
 
 pub code_read : (s : List ℕ) (from : ℕ) (r : Row) (p : Parsed) → r ≡ code_row → p ≡ parse_fields (kinds r) s from → sent_cell s from ≡ sent_code s p
 unfolding sent_cell kinds
