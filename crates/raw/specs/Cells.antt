@@ -2,7 +2,7 @@
 -- 01's list for 58 and 63; a 69 has next 0)".
 -- The kinds of a code's parameters are those of its format.
 -- Assumes nothing.
-use Rattle.std.specs.Prelude.{ℕ, Bool, List, [], ◌∷◌, eqb, leb, get_or}
+use Rattle.std.specs.Prelude.{ℕ, Bool, List, eqb, leb, get_or}
 use Rattle.laws.specs.Tests.{choose, both, either}
 use Rattle.fields.specs.declared.kinds.Kind.{Kind}
 use Rattle.fields.specs.declared.kinds.Kind.TheVariants.{Fixed, Next, Count, Signed, Optional, Sign, Multiplier, Name}
