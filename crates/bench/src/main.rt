@@ -11,8 +11,13 @@ use calls::{Event, Place};
 use decimal::parse::Number;
 use drive::Drive;
 use memory::{Chain, chained};
+use std::io;
+use std::io::Read;
 use sums::added;
 use units::Milliseconds;
+
+// How many bytes of the input are read at most.
+const ROOM: u64 = 4096;
 
 // An idle drive: a request that changes nothing stands for a start.
 fn idle() -> Drive {
@@ -234,10 +239,9 @@ fn asked(line: &[u8]) -> u32 {
     0
 }
 
-fn main() {
-    let mut space = io::buffer();
-    let n = io::read_full(0, &mut space);
-    let sum = asked(&space[..n]);
-    io::print_decimal(1, sum as u64);
-    io::write_all(1, b"\n");
+fn main(rt: HostRuntime) -> io::Result<()> {
+    let mut line = Vec::new(rt.alloc());
+    rt.stdin().take(ROOM).read_to_end(&mut line)?;
+    let sum = asked(&line);
+    println!(rt; "{sum}")
 }

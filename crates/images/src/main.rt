@@ -6,46 +6,44 @@ use drive::Drive;
 use image::reading::read;
 use image::results::{Refusal, Written};
 use image::writing::write;
-use libc::{STDERR_FILENO, STDIN_FILENO, STDOUT_FILENO};
 use lines::gathering::front;
+use std::io;
+use std::io::Read;
 
 // More bytes than the longest image has.
 const LONGEST: usize = 2048;
 
-fn refuse(refusal: Refusal) {
-    io::write_all(STDERR_FILENO, b"refused ");
-    io::print_decimal(STDERR_FILENO, refusal.number() as u64);
-    io::write_all(STDERR_FILENO, b"\n");
+// How many bytes of the input are read at most. A longer input is no image, whatever follows them.
+const ROOM: u64 = 4096;
+
+fn refuse(rt: &impl Eprint, refusal: Refusal) -> io::Result<()> {
+    eprintln!(rt; "refused {}", refusal.number())
 }
 
-fn hand_over(written: Written, buffer: &[u8]) {
+fn hand_over(rt: &(impl Print + Eprint), written: Written, buffer: &[u8]) -> io::Result<()> {
     match written {
-        Written::Refused(refusal) => refuse(refusal),
-        Written::Image { length } => {
-            io::write_all(STDOUT_FILENO, front(buffer, length));
-        }
+        Written::Refused(refusal) => refuse(rt, refusal),
+        Written::Image { length } => rt.write_all(front(buffer, length)),
     }
 }
 
-fn write_again(drive: Drive) {
+fn write_again(rt: &(impl Print + Eprint), drive: Drive) -> io::Result<()> {
     let mut buffer = [0u8; LONGEST];
     let written = write(drive, &mut buffer);
-    hand_over(written, &buffer);
+    hand_over(rt, written, &buffer)
 }
 
-fn load(bytes: &[u8]) {
+fn load(rt: &(impl Print + Eprint), bytes: &[u8]) -> io::Result<()> {
     let loaded = read(bytes);
     let refusal = loaded.refusal;
     if refusal.number() != 0 {
-        refuse(refusal);
-        return;
+        return refuse(rt, refusal);
     }
-    write_again(loaded.drive);
+    write_again(rt, loaded.drive)
 }
 
-// A longer input fills the buffer, and is no image.
-fn main() {
-    let mut space = io::buffer();
-    let n = io::read_full(STDIN_FILENO, &mut space);
-    load(&space[..n]);
+fn main(rt: HostRuntime) -> io::Result<()> {
+    let mut bytes = Vec::new(rt.alloc());
+    rt.stdin().take(ROOM).read_to_end(&mut bytes)?;
+    load(&rt, &bytes)
 }

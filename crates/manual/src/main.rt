@@ -17,9 +17,14 @@ use lines::gathering::{front, gather};
 use lines::words;
 use reporting::{begin_paragraph, end_paragraph, report_line, tally};
 use score::{Score, answered, compare, failing, new_score};
+use std::io;
+use std::io::Read;
 use units::DriveAddress;
 
 const LINE_FEED: u8 = 10;
+
+// How many bytes of the input are read at most; a script has fewer.
+const ROOM: u64 = 65536;
 
 // Where the script stands.
 #[derive(Clone, Copy)]
@@ -115,22 +120,29 @@ fn perform(mut bench: Bench, letter: u8, text: &[u8], seen: &mut [u8]) -> Bench 
 }
 
 // The first byte of a line says what the line is.
-fn take_line(bench: Bench, line: &[u8], number: u64, seen: &mut [u8]) -> Bench {
+fn take_line(
+    rt: &impl Print,
+    bench: Bench,
+    line: &[u8],
+    number: u64,
+    seen: &mut [u8],
+) -> io::Result<Bench> {
     let letter = letter_of(line);
     if is_passed_over(bench.score, letter) {
-        return bench;
+        return Ok(bench);
     }
     let text = words::behind(line, 1);
     if letter == b'#' {
-        return fresh_bench(begin_paragraph(end_paragraph(bench.score), text));
+        let ended = end_paragraph(rt, bench.score)?;
+        return Ok(fresh_bench(begin_paragraph(rt, ended, text)?));
     }
     let next = perform(bench, letter, text, seen);
-    report_line(next.score, line, number, seen);
-    next
+    report_line(rt, next.score, line, number, seen)?;
+    Ok(next)
 }
 
 // The script's lines, one after the other.
-fn run(script: &[u8]) -> Score {
+fn run(rt: &impl Print, script: &[u8]) -> io::Result<Score> {
     let mut bench = fresh_bench(new_score());
     let mut seen = [0u8; 128];
     let mut number: u64 = 0;
@@ -138,23 +150,23 @@ fn run(script: &[u8]) -> Score {
     while at < script.len() {
         let end = scan::find(script, at, script.len(), LINE_FEED);
         number = std::num::wrapping_add_u64(number, 1);
-        bench = take_line(bench, &script[at..end], number, &mut seen);
+        bench = take_line(rt, bench, &script[at..end], number, &mut seen)?;
         if script.len() <= end {
             let score = bench.score;
-            return score;
+            return Ok(score);
         }
         at = end + 1;
     }
     let score = bench.score;
-    score
+    Ok(score)
 }
 
-fn main() {
-    let mut script = io::large_buffer();
-    let n = io::read_full(0, &mut script);
-    if n == 65536 {
-        io::write_all(1, b"the script has more than 65535 bytes\n");
-        return;
+fn main(rt: HostRuntime) -> io::Result<()> {
+    let mut script = Vec::new(rt.alloc());
+    rt.stdin().take(ROOM).read_to_end(&mut script)?;
+    if script.len() == 65536 {
+        return println!(rt; "the script has more than 65535 bytes");
     }
-    tally(end_paragraph(run(&script[..n])));
+    let score = run(&rt, &script)?;
+    tally(&rt, end_paragraph(&rt, score)?)
 }

@@ -1,6 +1,7 @@
 // The lines of standard input, gathered from blocks.
-use libc::STDIN_FILENO;
 use lines::gathering::{front, gather};
+use std::io;
+use std::io::Read;
 
 // Where the input stands.
 #[derive(Clone, Copy)]
@@ -36,19 +37,18 @@ fn with_line(mut input: Input) -> Input {
 }
 
 // Reads a block. The last line may lack its line feed.
-fn filled(mut input: Input, block: &mut [u8]) -> Input {
-    let got = libc::read(STDIN_FILENO, block);
-    let n = io::count(got, block);
+fn filled(mut input: Input, source: &mut impl Read, block: &mut [u8]) -> io::Result<Input> {
+    let n = source.read(block)?;
     input.at = 0;
     input.end = n;
     if 0 < n {
-        return input;
+        return Ok(input);
     }
     input.ended = true;
     if 0 < input.kept {
-        return with_line(input);
+        return Ok(with_line(input));
     }
-    input
+    Ok(input)
 }
 
 // Takes the block's bytes up to the next line feed, or all.
@@ -67,7 +67,12 @@ fn taken(mut input: Input, at: usize, block: &[u8], line: &mut [u8]) -> Input {
 }
 
 // One step on: what is left of the block is taken, or another block is read.
-pub fn advanced(mut input: Input, block: &mut [u8], line: &mut [u8]) -> Input {
+pub fn advanced(
+    mut input: Input,
+    source: &mut impl Read,
+    block: &mut [u8],
+    line: &mut [u8],
+) -> io::Result<Input> {
     if input.whole {
         input.whole = false;
         input.kept = 0;
@@ -75,7 +80,7 @@ pub fn advanced(mut input: Input, block: &mut [u8], line: &mut [u8]) -> Input {
     let at = input.at;
     let end = input.end;
     if end <= at {
-        return filled(input, block);
+        return filled(input, source, block);
     }
-    taken(input, at, front(block, end), line)
+    Ok(taken(input, at, front(block, end), line))
 }

@@ -12,12 +12,13 @@ mod used;
 
 use drive::Drive;
 use input::{Input, advanced, new_input};
-use libc::STDOUT_FILENO;
 use lines::gathering::front;
 use performed::perform;
 use script::call::{Call, Complaint};
 use script::parse;
 use seen::{Out, put_drive};
+use std::io;
+use std::io::Read;
 use units::DriveAddress;
 
 // More bytes than one line of observations has: an image of up to 1,413 bytes in hex.
@@ -65,29 +66,29 @@ fn call_of(line: &[u8], n: usize, text: &mut [u8; 2048], numbers: &mut [u64; 7])
     parse::parse(front(line, n), text, numbers)
 }
 
-fn flush(out: &[u8], n: usize) {
-    io::write_all(STDOUT_FILENO, front(out, n));
+fn flush(rt: &impl Print, out: &[u8], n: usize) -> io::Result<()> {
+    rt.write_all(front(out, n))
 }
 
 // The place for what is seen of the next call.
-fn with_room(out: &[u8], at: usize) -> usize {
+fn with_room(rt: &impl Print, out: &[u8], at: usize) -> io::Result<usize> {
     if at <= out.len() {
         if ROOM <= out.len() - at {
-            return at;
+            return Ok(at);
         }
     }
-    flush(out, at);
-    0
+    flush(rt, out, at)?;
+    Ok(0)
 }
 
 // What was seen is handed over before more is read, so that one who gives a call at a time gets its
 // line; the place for what is seen next.
-fn handed_over(input: Input, out: &[u8], at: usize) -> usize {
+fn handed_over(rt: &impl Print, input: Input, out: &[u8], at: usize) -> io::Result<usize> {
     if input.at < input.end {
-        return at;
+        return Ok(at);
     }
-    flush(out, at);
-    0
+    flush(rt, out, at)?;
+    Ok(0)
 }
 
 // What is to be done with the line that stands in the input; nothing before it is whole.
@@ -105,9 +106,15 @@ fn taken(
 }
 
 // Names a malformed line, after all that was seen before it.
-fn refuse(out: &[u8], at: usize, line: u64, complaint: Complaint) {
-    flush(out, at);
-    complaints::write(line, complaint);
+fn refuse(
+    rt: &(impl Print + Eprint),
+    out: &[u8],
+    at: usize,
+    line: u64,
+    complaint: Complaint,
+) -> io::Result<()> {
+    flush(rt, out, at)?;
+    complaints::write(rt, line, complaint)
 }
 
 fn first_drive() -> Drive {
@@ -117,7 +124,13 @@ fn first_drive() -> Drive {
 
 // Nothing says that an input ends, so the turns are counted, down from a number that no script uses
 // up.
-fn replay(block: &mut [u8], line: &mut [u8], out: &mut Out) {
+fn replay(
+    rt: &(impl Print + Eprint),
+    source: &mut impl Read,
+    block: &mut [u8],
+    line: &mut [u8],
+    out: &mut Out,
+) -> io::Result<()> {
     let mut drive = first_drive();
     let mut used = [false; 131];
     usage::count(drive, &mut used);
@@ -126,32 +139,31 @@ fn replay(block: &mut [u8], line: &mut [u8], out: &mut Out) {
     let mut input = new_input();
     let mut turns = u64::MAX;
     while turns > 0 {
-        at = handed_over(input, out, at);
-        input = advanced(input, block, line);
+        at = handed_over(rt, input, out, at)?;
+        input = advanced(input, source, block, line)?;
         let mut text = [0u8; 2048];
         let mut numbers = [0u64; 7];
         let verdict = taken(input, line, begun, &mut text, &mut numbers);
         if let Verdict::Refuse(complaint) = verdict {
-            refuse(out, at, input.lines, complaint);
-            return;
+            return refuse(rt, out, at, input.lines, complaint);
         }
         if let Verdict::CarryOut(call) = verdict {
-            at = with_room(out, at);
+            at = with_room(rt, out, at)?;
             drive = perform(drive, call, &text, numbers, &mut used, out, &mut at);
             at = put_drive(drive, out, at);
             begun = true;
         }
         if input.ended {
-            flush(out, at);
-            return;
+            return flush(rt, out, at);
         }
         turns -= 1;
     }
+    Ok(())
 }
 
-fn main() {
-    let mut block = io::large_buffer();
+fn main(rt: HostRuntime) -> io::Result<()> {
+    let mut block = [0u8; 65536];
     let mut line = [0u8; LONGEST];
-    let mut out = io::large_buffer();
-    replay(&mut block, &mut line, &mut out);
+    let mut out = [0u8; 65536];
+    replay(&rt, &mut rt.stdin(), &mut block, &mut line, &mut out)
 }
