@@ -1,0 +1,22 @@
+-- `Drive::millisecond` meets its contract: by the check, and by the operation on a sound drive.
+-- Assumes nothing.
+use mathlib.Core.Path.{sym, ◌∙◌}
+use borrow.Author.Rules.{rules}
+use borrow.Author.Tests.{not-true, not-false}
+use Rattle.machine.specs.Calls.Call.{Millisecond}
+use Rattle.operations.specs.Results.{number_of}
+use Rattle.drive.proofs.Applied.{unsound-applied, sound-applied, time-passed}
+use Rattle.drive.proofs.Drive.millisecond.Goals as goal
+
+pub returns-then-not-sound : goal.returns-then-not-sound
+unfolding number_of
+returns-then-not-sound c =
+    c.refused.ensures ∙ sym (unsound-applied Millisecond _ c.sound.ensures c.if-not-sound.true)
+
+pub millisecond-state-requires : goal.millisecond-state-requires
+millisecond-state-requires c = sym c.sound.ensures ∙ c.if-not-sound.false
+
+pub returns : goal.returns
+returns c =
+    let sound = sound-applied Millisecond _ c.sound.ensures c.if-not-sound.false in
+    c.accepted.ensures ∙ (time-passed _ c.millisecond-state.ensures ∙ sym sound)

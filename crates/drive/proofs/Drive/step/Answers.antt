@@ -1,0 +1,22 @@
+-- `Drive::step` meets its contract: by the check, and by the operation on a sound drive.
+-- Assumes nothing.
+use mathlib.Core.Path.{sym, ◌∙◌}
+use borrow.Author.Rules.{rules}
+use borrow.Author.Tests.{not-true, not-false}
+use Rattle.machine.specs.Calls.Call.{Step}
+use Rattle.operations.specs.Results.{number_of}
+use Rattle.drive.proofs.Applied.{unsound-applied, sound-applied, handed-back}
+use Rattle.drive.proofs.Drive.step.Goals as goal
+
+pub returns-then-not-sound : goal.returns-then-not-sound
+unfolding number_of
+returns-then-not-sound c =
+    c.refused.ensures ∙ sym (unsound-applied Step _ c.sound.ensures c.if-not-sound.true)
+
+pub step-requires : goal.step-requires
+step-requires c = sym c.sound.ensures ∙ c.if-not-sound.false
+
+pub returns : goal.returns
+returns c =
+    let sound = sound-applied Step _ c.sound.ensures c.if-not-sound.false in
+    c.done.ensures ∙ handed-back Step _ _ c.step.ensures sound
