@@ -2,7 +2,6 @@
 -- Assumes nothing.
 use Rattle.lines.proofs.Pieces.{gathered-then}
 use Rattle.records.specs.Records.{fault_text}
-use borrow.Author.Rules.{rules}
 use Rattle.records.proofs.gather_fault.Goals as goal
 
 pub returns : goal.returns

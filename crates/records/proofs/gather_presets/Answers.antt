@@ -5,7 +5,6 @@ use Rattle.lines.proofs.Pieces.{gathered-then}
 use Rattle.observed.specs.Orders.{field_text}
 use Rattle.records.specs.Records.{presets_text}
 use Rattle.observed.proofs.Texts.{gathered-as}
-use borrow.Author.Rules.{rules}
 use Rattle.records.proofs.gather_presets.Goals as goal
 
 pub returns : goal.returns

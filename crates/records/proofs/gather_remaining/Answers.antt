@@ -6,7 +6,6 @@ use Rattle.decimal.specs.Printing.{signed}
 use Rattle.lines.proofs.Pieces.{gathered-then}
 use Rattle.records.specs.Records.{remaining_text}
 use Rattle.observed.proofs.Texts.{gathered-as}
-use borrow.Author.Rules.{rules}
 use Rattle.records.proofs.gather_remaining.Goals as goal
 
 pub returns-in-Nothing : goal.returns-in-Nothing

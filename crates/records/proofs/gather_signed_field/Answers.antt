@@ -3,7 +3,6 @@
 use Rattle.laws.specs.Text.{bytes}
 use Rattle.lines.proofs.Pieces.{gathered-then}
 use Rattle.records.specs.Records.{signed_field}
-use borrow.Author.Rules.{rules}
 use Rattle.records.proofs.gather_signed_field.Goals as goal
 
 pub returns : goal.returns

@@ -1,6 +1,6 @@
--- Invariant: the word so far is that of the inputs passed, from the last one down. Measure: the inputs left.
+-- `word_of` meets its contract: one input more at each turn, from the last down.
 -- Assumes nothing.
-use Prim.Native.Nat.{ℕ, ◌+◌, ◌-◌, ◌*◌, ◌≤◌}
+use Prim.Native.Nat.{ℕ, ◌+◌, ◌-◌, ◌*◌}
 use native.Mathlib.Omega.{arith}
 use mathlib.Core.Path.{◌≡◌, ap, ap₂, sym, ◌∙◌}
 use mathlib.Core.Bool.{false}
