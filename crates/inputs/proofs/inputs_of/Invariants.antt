@@ -1,6 +1,6 @@
 -- `inputs_of` meets its contract. Invariant: the bits stored so far, and then those of what is left of the word, are the bits of the word.
 -- Measure: the bits not yet stored. Assumes nothing.
-use Prim.Native.Nat.{◌+◌, ◌-◌, ◌≤◌}
+use Prim.Native.Nat.{◌-◌, ◌≤◌}
 use mathlib.Core.Path.{◌≡◌}
 use mathlib.Core.List.{◌++◌}
 use lib.ListN.{length, take}
