@@ -2,8 +2,6 @@
 // standard output. docs/PROTOCOL.md has the form.
 #![tactic(auto)]
 
-use libc::{STDIN_FILENO, STDOUT_FILENO};
-
-fn main() {
-    service::serve(STDIN_FILENO, STDOUT_FILENO);
+fn main(rt: HostRuntime) {
+    service::serve(&mut rt.stdin(), &mut rt.stdout());
 }

@@ -1,4 +1,5 @@
-// Lists of calls, in frames, on two descriptors: docs/PROTOCOL.md, "Frames". One drive is held.
+// Lists of calls, in frames, from a reader to a writer: docs/PROTOCOL.md, "Frames". One drive is
+// held.
 #![tactic(auto)]
 
 ghost use Rattle.std.specs.Prelude.{◌≡◌, ◌<◌, length};
@@ -12,6 +13,7 @@ mod framing;
 use answering::{answer, put_header};
 use framing::{Arrival, receive};
 use lines::gathering::front;
+use std::io::{Read, Write};
 
 // The most bytes of a frame after its length: a kind and a list.
 const LONGEST: usize = 16_385;
@@ -22,7 +24,7 @@ const ANSWER: usize = 65_541;
 // Serves frames until the input ends, a frame is cut short or the output takes no more. A proved
 // loop has to end, and nothing says that the input does, so it counts its turns down, from a number
 // that no run uses up.
-pub fn serve(input: i32, output: i32) {
+pub fn serve<R: Read, W: Write>(input: &mut R, output: &mut W) {
     let made = Drive::fresh(DriveAddress(0));
     let mut drive = made.drive;
     let mut frame = [0u8; LONGEST];
@@ -46,12 +48,12 @@ pub struct Turn {
 }
 
 // Hands over the first bytes of an answer.
-fn hand_over(output: i32, out: &[u8], n: usize) -> bool {
-    io::write_all(output, front(out, n))
+fn hand_over<W: Write>(output: &mut W, out: &[u8], n: usize) -> bool {
+    output.write_all(front(out, n)).is_ok()
 }
 
 // A frame that is no request: its answer leaves the drive as it is.
-fn complain(output: i32, drive: Drive, out: &mut [u8], status: u8, going: bool) -> Turn
+fn complain<W: Write>(output: &mut W, drive: Drive, out: &mut [u8], status: u8, going: bool) -> Turn
     requires { length out.old ≡ 65541 }
 {
     let n = put_header(out, 0, status);
@@ -62,7 +64,7 @@ fn complain(output: i32, drive: Drive, out: &mut [u8], status: u8, going: bool) 
 }
 
 // Answers a request.
-fn respond(output: i32, drive: Drive, frame: &[u8], out: &mut [u8]) -> Turn
+fn respond<W: Write>(output: &mut W, drive: Drive, frame: &[u8], out: &mut [u8]) -> Turn
     requires { length out.old ≡ 65541 }
 {
     let answered = answer(drive, frame, out);
@@ -74,7 +76,13 @@ fn respond(output: i32, drive: Drive, frame: &[u8], out: &mut [u8]) -> Turn
 }
 
 // Reads a frame and answers it.
-fn serve_one(input: i32, output: i32, drive: Drive, frame: &mut [u8], out: &mut [u8]) -> Turn
+fn serve_one<R: Read, W: Write>(
+    input: &mut R,
+    output: &mut W,
+    drive: Drive,
+    frame: &mut [u8],
+    out: &mut [u8],
+) -> Turn
     requires frame_nonzero { 0 < length frame.old }
     requires out_len { length out.old ≡ 65541 }
 {
