@@ -11,6 +11,7 @@ use machine::{Machine, State};
 use operations::results::{Acted, Refusal};
 
 // The drive as it came, with a refusal.
+#[tactic(auto, unfolding(crate::specs::Results::done_as))]
 pub fn refused(refusal: Refusal, machine: Machine) -> Done
     ensures { done_as result ≡ refused_of (number_of refusal) machine }
 {
@@ -19,6 +20,7 @@ pub fn refused(refusal: Refusal, machine: Machine) -> Done
 }
 
 // The drive with its next state.
+#[tactic(auto, unfolding(crate::specs::Results::done_as, operations::specs::Results::number_of))]
 pub fn accepted(mut machine: Machine, state: State) -> Done
     ensures { done_as result ≡ done_of (with_state machine state) }
 {

@@ -13,9 +13,6 @@ unfolding number_of
 returns-then-not-sound c =
     c.refused.ensures ∙ sym (unsound-applied AtSpeed _ c.sound.ensures c.if-not-sound.true)
 
-pub at_speed-requires : goal.at_speed-requires
-at_speed-requires c = sym c.sound.ensures ∙ c.if-not-sound.false
-
 pub returns : goal.returns
 returns c =
     let sound = sound-applied AtSpeed _ c.sound.ensures c.if-not-sound.false in

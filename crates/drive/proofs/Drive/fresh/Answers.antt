@@ -12,16 +12,11 @@ use Rattle.operations.specs.Results.{number_of}
 use Rattle.drive.specs.Results.{made_as}
 use Rattle.drive.proofs.Drive.fresh.Goals as goal
 
-pub returns-then-address-gt47 : goal.returns-then-address-gt47
+pub returns-then-address-gt47-clause-result_value : goal.returns-then-address-gt47-clause-result_value
 unfolding made number_of made_as choose
-returns-then-address-gt47 c = record {
-  result_value = sym (choose-true _ _ _ (lt-ltb _ _ c.if-address-gt47.true));
-  drive = c.fresh_machine-machine.ensures;
-}
+returns-then-address-gt47-clause-result_value c = sym (choose-true _ _ _ (lt-ltb _ _ c.if-address-gt47.true))
 
-pub returns : goal.returns
+pub returns-clause-result_value : goal.returns-clause-result_value
 unfolding made number_of made_as choose
-returns c = record {
-  result_value = ap (λ (m : Machine). Drive m) c.fresh_machine-machine.ensures ∙ sym (choose-false _ _ _ (le-ltb _ _ c.if-address-gt47.false));
-  drive = c.fresh_machine-machine.ensures;
-}
+returns-clause-result_value c =
+    ap (λ (m : Machine). Drive m) c.fresh_machine-machine.ensures ∙ sym (choose-false _ _ _ (le-ltb _ _ c.if-address-gt47.false))

@@ -13,9 +13,6 @@ unfolding number_of
 returns-then-not-sound c =
     c.refused.ensures ∙ sym (unsound-applied Halted _ c.sound.ensures c.if-not-sound.true)
 
-pub halted-requires : goal.halted-requires
-halted-requires c = sym c.sound.ensures ∙ c.if-not-sound.false
-
 pub returns : goal.returns
 returns c =
     let sound = sound-applied Halted _ c.sound.ensures c.if-not-sound.false in

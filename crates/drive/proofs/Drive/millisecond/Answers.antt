@@ -13,9 +13,6 @@ unfolding number_of
 returns-then-not-sound c =
     c.refused.ensures ∙ sym (unsound-applied Millisecond _ c.sound.ensures c.if-not-sound.true)
 
-pub millisecond-state-requires : goal.millisecond-state-requires
-millisecond-state-requires c = sym c.sound.ensures ∙ c.if-not-sound.false
-
 pub returns : goal.returns
 returns c =
     let sound = sound-applied Millisecond _ c.sound.ensures c.if-not-sound.false in

@@ -15,9 +15,6 @@ pub returns-then-not-sound : goal.returns-then-not-sound
 unfolding number_of ordered_as ordered
 returns-then-not-sound c = sym (choose-false _ _ _ (sym c.sound.ensures ∙ c.if-not-sound.true))
 
-pub order-requires : goal.order-requires
-order-requires c = sym c.sound.ensures ∙ c.if-not-sound.false
-
 pub returns : goal.returns
 unfolding ordered_as ordered
 returns c =

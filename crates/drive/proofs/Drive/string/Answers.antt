@@ -8,13 +8,12 @@ use Rattle.drive.proofs.Applied.{unsound-applied, sound-applied, string-unsound,
 use Rattle.drive.proofs.Drive.string.Goals as goal
 
 pub returns-then-not-sound : goal.returns-then-not-sound
-returns-then-not-sound c = string-unsound _ _ _ (unsound-applied (SendString _ _) _ c.sound.ensures c.if-not-sound.true)
-
-pub string-answered-requires : goal.string-answered-requires
-string-answered-requires c = sym c.sound.ensures ∙ c.if-not-sound.false
+returns-then-not-sound c =
+    let r = string-unsound _ _ _ (unsound-applied (SendString _ _) _ c.sound.ensures c.if-not-sound.true) in
+    record { buffer_after = r.0; length = r.1.0; buffer = r.1.1 }
 
 pub returns : goal.returns
 returns c =
-    let check = c.sound in
-    let sound = sound-applied (SendString _ _) _ check.ensures c.if-not-sound.false in
-    string-applied _ _ _ _ _ sound c.string-answered.ensures
+    let sound = sound-applied (SendString _ _) _ c.sound.ensures c.if-not-sound.false in
+    let r = string-applied _ _ _ _ _ sound c.string-answered.ensures in
+    record { buffer_after = r.0; length = r.1.0; buffer = r.1.1 }

@@ -13,9 +13,6 @@ pub returns-then-not-sound : goal.returns-then-not-sound
 unfolding number_of ending_as waited_as
 returns-then-not-sound c = sym (unsound-applied (Wait _) _ c.sound.ensures c.if-not-sound.true)
 
-pub wait-passed-requires : goal.wait-passed-requires
-wait-passed-requires c = sym c.sound.ensures ∙ c.if-not-sound.false
-
 pub returns : goal.returns
 unfolding waited_as passed_on
 returns c =
