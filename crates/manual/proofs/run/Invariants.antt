@@ -5,7 +5,7 @@ use Rattle.std.proofs.Common.{◌≡◌, ◌-◌, ◌≤◌, length, sym, refl, 
 use Rattle.manual.proofs.run.Given as goal
 
 abbrev pub invariant-loop-at : goal.invariant-loop-at
-invariant-loop-at l = (l.at ≤ length l.script) × (length l.seen ≡ 128)
+invariant-loop-at g l = (l.at ≤ length l.script) × (length l.seen ≡ 128)
 
 abbrev pub decreases-loop-at : goal.decreases-loop-at
-decreases-loop-at l = length l.script - l.at
+decreases-loop-at g l = length l.script - l.at
