@@ -10,8 +10,8 @@ use Rattle.console.proofs.Parts.{reachable-first, reachable-next}
 use Rattle.console.proofs.run.Given as goal
 
 abbrev pub invariant-loop-turns : goal.invariant-loop-turns
-invariant-loop-turns l =
+invariant-loop-turns g l =
     (length l.part ≡ 1024) × (Servable l.string l.length l.part l.out × Reachable l.drive.machine (take l.length l.string))
 
 abbrev pub decreases-loop-turns : goal.decreases-loop-turns
-decreases-loop-turns l = l.turns
+decreases-loop-turns g l = l.turns
