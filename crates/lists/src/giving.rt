@@ -81,6 +81,7 @@ fn tell_travel(state: State, cell: Cell, limit: u32, buffer: &mut [u8], at: usiz
 }
 
 // Whether a word needs the whole drive.
+#[tactic(auto, unfolding(crate::specs::Giving::is_whole))]
 pub fn is_whole(head: Head) -> bool
     ensures { result ≡ is_whole head }
 {

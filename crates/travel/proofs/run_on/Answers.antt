@@ -1,11 +1,10 @@
 -- `run_on` meets its contract.
 -- Invariant: the steps given so far only moved, and those that remain lead where all of them lead. Measure: the steps left of the limit.
 -- Assumes nothing.
-use Prim.Native.Nat.{◌-◌, ◌<◌}
+use Prim.Native.Nat.{◌<◌}
 use native.Mathlib.Omega.{arith}
 use borrow.Author.Rules.{rules}
-use Rattle.travel.specs.Plain.{placed}
-use Rattle.travel.proofs.Turns.{Turning, turning-start, spent-handed, looked, plain_turn, last_turn}
+use Rattle.travel.proofs.Turns.{turning-start, spent-handed, looked, plain_turn, last_turn}
 use Rattle.travel.proofs.run_on.Goals as goal
 
 pub loop-n-init : goal.loop-n-init

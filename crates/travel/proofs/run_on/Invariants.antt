@@ -1,11 +1,9 @@
 -- `run_on` meets its contract.
 -- Invariant: the steps given so far only moved, and those that remain lead where all of them lead. Measure: the steps left of the limit.
 -- Assumes nothing.
-use Prim.Native.Nat.{◌-◌, ◌<◌}
-use native.Mathlib.Omega.{arith}
-use borrow.Author.Rules.{rules}
+use Prim.Native.Nat.{◌-◌}
 use Rattle.travel.specs.Plain.{placed}
-use Rattle.travel.proofs.Turns.{Turning, turning-start, spent-handed, looked, plain_turn, last_turn}
+use Rattle.travel.proofs.Turns.{Turning}
 use Rattle.travel.proofs.run_on.Given as goal
 
 abbrev pub invariant-loop-n : goal.invariant-loop-n
