@@ -1,6 +1,6 @@
 -- What is seen of a call, as bytes: docs/PROTOCOL.md, the fourth column.
 -- Assumes nothing.
-use Rattle.std.specs.Prelude.{ℕ, ◌+◌, ◌*◌, Bool, true, false, List, [], ◌∷◌, ◌++◌, length}
+use Rattle.std.specs.Prelude.{ℕ, ◌+◌, ◌*◌, Bool, false, List, [], ◌∷◌, ◌++◌, length}
 use Rattle.laws.specs.Tests.{choose}
 use Rattle.machine.specs.Calls.{Call, Ending, Shown, Seen}
 use Rattle.machine.specs.Calls.Call.{SendString, SetInputs, Millisecond, Step, AtSpeed, Halted, Wait}

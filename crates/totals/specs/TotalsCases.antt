@@ -1,6 +1,6 @@
 -- Worked totals, from the sentences of 02, Slip 2: what the walk from a start cell gives, and what a run of it makes.
 -- Assumes nothing.
-use Rattle.std.specs.Prelude.{ℕ, zero, suc, ◌+◌, ◌≡◌, Bool, true, false, List, [], ◌∷◌, eqb, ℤ, pos, negsuc}
+use Rattle.std.specs.Prelude.{ℕ, zero, suc, ◌≡◌, Bool, true, false, List, [], ◌∷◌, eqb, ℤ, pos, negsuc}
 use Prim.Native.String.{String}
 use Rattle.laws.specs.Tests.{choose, both}
 use Rattle.units.specs.declared.CellAddress.{CellAddress}

@@ -1,8 +1,7 @@
 -- `along` meets its contract: by the check, by the range of the start, and by the walk.
 -- Assumes nothing.
 use mathlib.Core.Path.{sym, ◌∙◌}
-use borrow.Author.Rules.{rules}
-use borrow.Author.Tests.{not-true, not-false, le-leb, lt-leb}
+use borrow.Author.Tests.{le-leb, lt-leb}
 use Rattle.laws.proofs.Tests.{choose-true, choose-false, both_true, both_left}
 use Rattle.laws.proofs.Joins.{both-false-left, both-false-right}
 use Rattle.machine.specs.Soundness.{is_cell, sound}

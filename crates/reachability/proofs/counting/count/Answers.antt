@@ -1,11 +1,11 @@
 -- `count` meets its contract. Invariant: the first k places are marked and stand in the order. Measure: the roots left.
 -- Assumes nothing.
-use Prim.Native.Nat.{ℕ, ◌-◌, ◌≤◌}
+use Prim.Native.Nat.{ℕ, ◌≤◌}
 use native.Mathlib.Omega.{arith}
 use mathlib.Core.Path.{◌≡◌, subst}
 use mathlib.Core.Bool.{Bool}
 use mathlib.Core.List.{List}
-use Rattle.reachability.proofs.Rooting.{Rooted, rooted_none, rooted_more, rooted-waiting, rooted-counted}
+use Rattle.reachability.proofs.Rooting.{Rooted, rooted_none, rooted_more, rooted-counted}
 use Rattle.reachability.proofs.counting.count.Goals as goal
 
 -- all of them, when the loop ends

@@ -1,11 +1,7 @@
 -- `count` meets its contract. Invariant: the first k places are marked and stand in the order. Measure: the roots left.
 -- Assumes nothing.
-use Prim.Native.Nat.{ℕ, ◌-◌, ◌≤◌}
-use native.Mathlib.Omega.{arith}
-use mathlib.Core.Path.{◌≡◌, subst}
-use mathlib.Core.Bool.{Bool}
-use mathlib.Core.List.{List}
-use Rattle.reachability.proofs.Rooting.{Rooted, rooted_none, rooted_more, rooted-waiting, rooted-counted}
+use Prim.Native.Nat.{◌-◌, ◌≤◌}
+use Rattle.reachability.proofs.Rooting.{Rooted}
 use Rattle.reachability.proofs.counting.count.Given as goal
 
 abbrev pub invariant-loop-k : goal.invariant-loop-k

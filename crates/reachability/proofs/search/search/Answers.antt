@@ -1,10 +1,6 @@
 -- `search` meets its contract. Invariant: what a search keeps after the first i cells of its order. Measure: the places that it has not come to.
 -- Assumes nothing.
-use Prim.Native.Nat.{◌-◌}
-use native.Mathlib.Omega.{arith}
-use lib.ListN.{take}
-use Rattle.reachability.specs.Search.{open_by}
-use Rattle.reachability.proofs.Searching.{Under, under-place, under-start, under-half, under-turn, under-ended}
+use Rattle.reachability.proofs.Searching.{under-start, under-half, under-turn, under-ended}
 use Rattle.reachability.proofs.search.search.Goals as goal
 
 pub loop-i-init : goal.loop-i-init

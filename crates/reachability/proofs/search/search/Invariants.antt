@@ -1,10 +1,9 @@
 -- `search` meets its contract. Invariant: what a search keeps after the first i cells of its order. Measure: the places that it has not come to.
 -- Assumes nothing.
 use Prim.Native.Nat.{◌-◌}
-use native.Mathlib.Omega.{arith}
 use lib.ListN.{take}
 use Rattle.reachability.specs.Search.{open_by}
-use Rattle.reachability.proofs.Searching.{Under, under-place, under-start, under-half, under-turn, under-ended}
+use Rattle.reachability.proofs.Searching.{Under}
 use Rattle.reachability.proofs.search.search.Given as goal
 
 abbrev pub invariant-loop-i : goal.invariant-loop-i

@@ -8,7 +8,6 @@ use Rattle.laws.proofs.Writing.{put-append, put_as}
 use Rattle.operations.specs.Results.{ending_as}
 use Rattle.operations.specs.declared.results.Ending.{Ending}
 use Rattle.seen.specs.Bytes.{ending_bytes}
-use borrow.Author.Rules.{rules}
 use Rattle.seen.proofs.endings.put_ending.Goals as goal
 
 -- the bytes of an end known to be of a kind

@@ -1,10 +1,7 @@
 -- `seen::numbers::put_number` meets its contract.
 -- Assumes nothing.
-use native.Mathlib.Omega.{arith}
-use lib.ListN.{length-set}
 use Rattle.encoding.specs.Numbers.{number_bytes}
 use Rattle.seen.proofs.Pieces.{put_four}
-use borrow.Author.Rules.{rules}
 use Rattle.seen.proofs.numbers.put_number.Goals as goal
 
 pub returns : goal.returns

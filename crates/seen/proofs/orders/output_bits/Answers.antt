@@ -1,6 +1,6 @@
 -- `output_bits` meets its contract: each turn puts one output below the bits so far, which stay below 2^14.
 -- Assumes nothing.
-use Rattle.std.proofs.Common.{◌≡◌, ℕ, suc, ◌-◌, ◌^◌, ◌≤◌, ◌<◌, Bool, false, List, length, get_or, drop, ap, sym, ◌∙◌, arith, rules, length-drop}
+use Rattle.std.proofs.Common.{◌≡◌, ℕ, suc, ◌-◌, ◌^◌, ◌<◌, Bool, false, List, length, get_or, drop, ap, sym, ◌∙◌, arith, rules, length-drop}
 use lib.Seq.{drop-length}
 use Rattle.laws.specs.Tests.{choose}
 use Rattle.seen.specs.Bytes.{bits_of}

@@ -5,7 +5,6 @@ use Rattle.laws.proofs.Writing.{put-append}
 use Rattle.encoding.specs.Numbers.{number_bytes}
 use Rattle.seen.specs.Bytes.{parts_bytes}
 use Rattle.seen.proofs.Pieces.{put-room}
-use borrow.Author.Rules.{rules}
 use Rattle.seen.proofs.orders.put_parts.Goals as goal
 
 pub put_number-requires : goal.put_number-requires

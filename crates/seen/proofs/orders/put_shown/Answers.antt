@@ -6,7 +6,6 @@ use Rattle.laws.proofs.Writing.{put-append, put_as}
 use Rattle.encoding.specs.Numbers.{number_bytes}
 use Rattle.seen.specs.Bytes.{parts_bytes, shown_bytes}
 use Rattle.seen.proofs.Pieces.{put-room}
-use borrow.Author.Rules.{rules}
 use Rattle.seen.proofs.orders.put_shown.Goals as goal
 
 pub put_number-requires : goal.put_number-requires

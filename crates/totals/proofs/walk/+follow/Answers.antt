@@ -1,6 +1,6 @@
 -- `follow` meets its contract: each way through a turn is a way through the definition's.
 -- Assumes nothing.
-use Rattle.std.proofs.Common.{ℕ, ◌+◌, ◌<◌, ℤ, get_or, sym, ap, ◌∙◌, subst, arith, rules}
+use Rattle.std.proofs.Common.{ℕ, ◌+◌, ◌<◌, ℤ, get_or, sym, ap, ◌∙◌, subst, arith}
 use mir.Facts.{to_z-of_z}
 use Rattle.laws.specs.Tests.{choose}
 use Rattle.cellmap.specs.Marks.{marked, unmarked}

@@ -1,7 +1,7 @@
 -- The words of a list: the calls that they stand for, the drive after each, and what is seen of it.
 -- Assumes nothing.
 use Rattle.std.specs.Prelude.{ℕ, zero, suc, ◌-◌, List, [], ◌∷◌, ◌++◌, take, drop, replicate}
-use Rattle.machine.specs.Calls.{Call, next, look, after, shown}
+use Rattle.machine.specs.Calls.{Call, look, after, shown}
 use Rattle.machine.specs.Calls.Call.{SendString, SetInputs, Millisecond as millisecond, Step as step, AtSpeed as at_speed, Halted as halted, Wait as wait}
 use Rattle.machine.specs.declared.Machine.{Machine}
 use Rattle.travel.specs.Travel.{step_calls, travelled}

@@ -1,6 +1,6 @@
 -- What the function of each word promises: the next drive, and what is seen of it, put into a buffer.
 -- Assumes nothing.
-use Rattle.std.specs.Prelude.{ℕ, ◌+◌, ◌≤◌, ◌≡◌, Bool, true, false, List, length}
+use Rattle.std.specs.Prelude.{ℕ, ◌≡◌, Bool, true, false, List, length}
 use Rattle.laws.specs.Writing.{Put}
 use Rattle.machine.specs.declared.Machine.{Machine}
 use Rattle.encoding.specs.declared.Head.{Head}

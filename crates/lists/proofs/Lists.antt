@@ -1,6 +1,5 @@
 -- Calls one after another.
 -- Assumes nothing.
-use Prim.Native.Nat.{ℕ}
 use mathlib.Core.Path.{◌≡◌, refl}
 use mathlib.Core.List.{List, [], ◌∷◌, ◌++◌}
 use Rattle.machine.specs.Invariant.{Kept}

@@ -7,7 +7,7 @@ use mathlib.Core.Bool.{true, false}
 use mathlib.Core.List.{List}
 use lib.Dec.{eqb}
 use lib.ListN.{length}
-use borrow.Author.Tests.{eq-eqb, ne_eqb}
+use borrow.Author.Tests.{ne_eqb}
 use Rattle.laws.specs.Writing.{Put}
 use Rattle.laws.proofs.Tests.{choose-true, choose-false}
 use Rattle.laws.proofs.Writing.{put_front}
@@ -20,7 +20,7 @@ use Rattle.encoding.specs.Refusing.{number_of, refusal_of}
 use Rattle.encoding.specs.declared.Refusal.{Refusal}
 use Rattle.encoding.specs.declared.Refusal.TheVariants.{None, Unsound, NoWord, CutShort, ShortBuffer}
 use Rattle.lists.specs.Listing.{words_of, calls_of, bytes_of}
-use Rattle.lists.specs.Performing.{Performance, carried_out, refused_whole, performed, performed_as}
+use Rattle.lists.specs.Performing.{refused_whole, performed, performed_as}
 
 -- a refusal's number is 0 only where nothing is refused
 pub none-refused : (r : Refusal) → number_of r ≡ 0 → r ≡ None

@@ -1,15 +1,15 @@
 -- Calls written as the words of a list: each word is read as it was written, and comes to what its call comes to.
 -- Assumes nothing.
-use Prim.Native.Nat.{ℕ, ◌+◌, ◌-◌, ◌<◌, ◌≤◌}
+use Prim.Native.Nat.{ℕ, ◌+◌, ◌-◌, ◌≤◌}
 use native.Mathlib.Omega.{arith}
 use mathlib.Core.Path.{◌≡◌, refl, sym, ap, ◌∙◌}
-use mathlib.Core.Bool.{Bool, true}
+use mathlib.Core.Bool.{true}
 use mathlib.Core.List.{List, [], ◌∷◌, ◌++◌}
 use lib.Dec.{ltb}
-use lib.ListN.{length, take, drop, replicate, length-append, length-replicate}
+use lib.ListN.{length, drop, replicate, length-append, length-replicate}
 use lib.Seq.{take-append_seam, drop-append_seam}
 use borrow.Author.Tests.{ltb-true}
-use Rattle.laws.specs.Tests.{choose, both}
+use Rattle.laws.specs.Tests.{choose}
 use Rattle.laws.specs.Tables.{every}
 use Rattle.laws.proofs.Tests.{both_left, both_right}
 use Rattle.machine.specs.Soundness.{sound}

@@ -70,6 +70,7 @@ fn tell_wait(mut machine: Machine, budget: u32, buffer: &mut [u8], at: usize) ->
 }
 
 // A word that needs the whole drive; the bytes of the word are lent with it.
+#[tactic(auto, unfolding(encoding::specs::Words::size_of, encoding::specs::Words::room_of))]
 pub fn tell(machine: Machine, head: Head, word: &[u8], buffer: &mut [u8], at: usize) -> Told
     requires machine_value { sound_of machine ≡ true }
     requires word_len { length word.now ≡ size_of head }

@@ -100,6 +100,7 @@ pub fn is_whole(head: Head) -> bool
 }
 
 // A word, given the present cell and the interrupted record's.
+#[tactic(auto, unfolding(encoding::specs::Words::room_of))]
 pub fn give(head: Head, state: State, cell: Cell, held: Cell, buffer: &mut [u8], at: usize) -> Given
     requires cell_value { (cell_sound cell ≡ true) × (cell_sound held ≡ true) }
     requires head_in_bounds { at + room_of head ≤ length buffer.old }

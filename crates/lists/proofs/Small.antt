@@ -13,7 +13,7 @@ use Rattle.machine.specs.Soundness.{sound}
 use Rattle.machine.specs.Record.{cell_at}
 use Rattle.machine.specs.Milliseconds.{present, held, millisecond_at}
 use Rattle.machine.specs.Orders.{order_at}
-use Rattle.machine.specs.Calls.{Call, Outcome, Shown, done, act, apply, next, look, after, shown, shown_at}
+use Rattle.machine.specs.Calls.{Call, Outcome, done, act, apply, next, look, after, shown, shown_at}
 use Rattle.machine.specs.Calls.Call.{Millisecond}
 use Rattle.machine.specs.Invariant.{Kept}
 use Rattle.machine.specs.declared.State.{State}
@@ -27,7 +27,7 @@ use Rattle.encoding.specs.Numbers.{number_bytes}
 use Rattle.encoding.specs.Words.{room_of}
 use Rattle.encoding.specs.declared.Head.{Head}
 use Rattle.seen.specs.Bytes.{shown_bytes, call_bytes}
-use Rattle.travel.specs.Travel.{travelled, Travels}
+use Rattle.travel.specs.Travel.{Travels}
 use Rattle.travel.specs.declared.Travelled.{Travelled}
 use Rattle.lists.specs.Listing.{Word, word_calls, word_next, word_seen}
 use Rattle.lists.specs.Listing.Word.{Nothing, Called, Order, Travel}

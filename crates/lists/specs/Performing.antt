@@ -1,7 +1,7 @@
 -- A list of calls carried out whole: the drive after all of them, and what is seen at the front of the buffer; or a refusal, the drive as it came and
 -- the buffer untouched.
 -- Assumes nothing.
-use Rattle.std.specs.Prelude.{ℕ, List, [], eqb, length}
+use Rattle.std.specs.Prelude.{ℕ, List, eqb, length}
 use Rattle.laws.specs.Tests.{choose}
 use Rattle.machine.specs.Soundness.{sound}
 use Rattle.machine.specs.Calls.{after}
@@ -9,7 +9,7 @@ use Rattle.machine.specs.Operations.{filled}
 use Rattle.machine.specs.declared.Machine.{Machine}
 use Rattle.encoding.specs.Refusing.{number_of, refusal_of}
 use Rattle.encoding.specs.declared.Refusal.{Refusal}
-use Rattle.encoding.specs.declared.Refusal.TheVariants.{None, Unsound}
+use Rattle.encoding.specs.declared.Refusal.TheVariants.{Unsound}
 use Rattle.lists.specs.Listing.{words_of, calls_of, bytes_of}
 use Rattle.lists.specs.declared.Performed.{Performed}
 
