@@ -10,14 +10,14 @@ mod sums;
 use calls::{Event, Place};
 use decimal::parse::Number;
 use drive::Drive;
+use filling::fill;
 use memory::{Chain, chained};
 use std::io;
-use std::io::Read;
 use sums::added;
 use units::Milliseconds;
 
 // How many bytes of the input are read at most.
-const ROOM: u64 = 4096;
+const ROOM: usize = 4096;
 
 // An idle drive: a request that changes nothing stands for a start.
 fn idle() -> Drive {
@@ -240,8 +240,8 @@ fn asked(line: &[u8]) -> u32 {
 }
 
 fn main(rt: HostRuntime) -> io::Result<()> {
-    let mut line = Vec::new(rt.alloc());
-    rt.stdin().take(ROOM).read_to_end(&mut line)?;
-    let sum = asked(&line);
+    let mut line = [0u8; ROOM];
+    let n = fill(&mut rt.stdin(), &mut line);
+    let sum = asked(&line[..n]);
     println!(rt; "{sum}")
 }

@@ -3,18 +3,18 @@
 #![tactic(auto)]
 
 use drive::Drive;
+use filling::fill;
 use image::reading::read;
 use image::results::{Refusal, Written};
 use image::writing::write;
 use lines::gathering::front;
 use std::io;
-use std::io::Read;
 
 // More bytes than the longest image has.
 const LONGEST: usize = 2048;
 
 // How many bytes of the input are read at most. A longer input is no image, whatever follows them.
-const ROOM: u64 = 4096;
+const ROOM: usize = 4096;
 
 fn refuse(rt: &impl Eprint, refusal: Refusal) -> io::Result<()> {
     eprintln!(rt; "refused {}", refusal.number())
@@ -43,7 +43,7 @@ fn load(rt: &(impl Print + Eprint), bytes: &[u8]) -> io::Result<()> {
 }
 
 fn main(rt: HostRuntime) -> io::Result<()> {
-    let mut bytes = Vec::new(rt.alloc());
-    rt.stdin().take(ROOM).read_to_end(&mut bytes)?;
-    load(&rt, &bytes)
+    let mut space = [0u8; ROOM];
+    let n = fill(&mut rt.stdin(), &mut space);
+    load(&rt, &space[..n])
 }

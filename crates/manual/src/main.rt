@@ -13,18 +13,18 @@ use arguments::{expected, number_of};
 use calls::{Outcome, act};
 use decimal::parse::Number;
 use drive::Drive;
+use filling::fill;
 use lines::gathering::{front, gather};
 use lines::words;
 use reporting::{begin_paragraph, end_paragraph, report_line, tally};
 use score::{Score, answered, compare, failing, new_score};
 use std::io;
-use std::io::Read;
 use units::DriveAddress;
 
 const LINE_FEED: u8 = 10;
 
 // How many bytes of the input are read at most; a script has fewer.
-const ROOM: u64 = 65536;
+const ROOM: usize = 65536;
 
 // Where the script stands.
 #[derive(Clone, Copy)]
@@ -162,11 +162,11 @@ fn run(rt: &impl Print, script: &[u8]) -> io::Result<Score> {
 }
 
 fn main(rt: HostRuntime) -> io::Result<()> {
-    let mut script = Vec::new(rt.alloc());
-    rt.stdin().take(ROOM).read_to_end(&mut script)?;
-    if script.len() == 65536 {
+    let mut script = [0u8; ROOM];
+    let n = fill(&mut rt.stdin(), &mut script);
+    if n == 65536 {
         return println!(rt; "the script has more than 65535 bytes");
     }
-    let score = run(&rt, &script)?;
+    let score = run(&rt, &script[..n])?;
     tally(&rt, end_paragraph(&rt, score)?)
 }
