@@ -3,12 +3,11 @@
 ghost use Rattle.std.specs.Prelude.{◌<◌};
 
 use crate::sums::{
-    added, answer_seen, image_seen, last_seen, length_of, loaded_seen, map_seen, order_seen, seen,
-    totals_seen, wait_seen,
+    added, answer_seen, image_seen, last_seen, loaded_seen, map_seen, order_seen, seen, totals_seen,
 };
 use cellmap::CellMap;
 use drive::Drive;
-use drive::results::Done;
+use drive::results::Refused;
 use image::reading::read;
 use image::writing::write;
 use lines::gathering::front;
@@ -38,23 +37,27 @@ fn digit(number: u32) -> u8 {
 
 // The eighth byte of a string counts: a WN or a QM goes over ten cells.
 fn set_digit(text: &mut [u8], k: u32) {
-    if 7 < text.len() {
-        text[7] = digit(k);
+    if let Some(byte) = text.get_mut(7) {
+        *byte = digit(k);
     }
 }
 
-pub fn strings(text: &mut [u8], buffer: &mut [u8], drive: Drive, count: u32) -> u32 {
-    let mut d = drive;
-    let mut sum: u32 = 0;
-    let mut k: u32 = 0;
-    while k < count {
+// Gives a drive a string, and hands back how many bytes answer it.
+fn tell(drive: &mut Drive, text: &[u8], buffer: &mut [u8]) -> usize {
+    let Ok(told) = drive.string(text, buffer) else {
+        return 0;
+    };
+    *drive = told.drive;
+    told.length
+}
+
+pub fn strings(text: &mut [u8], mut drive: Drive, count: u32) -> u32 {
+    let mut buffer = [0u8; 64];
+    (0..count).fold(0, |sum, k| {
         set_digit(text, k);
-        let told = d.string(text, buffer);
-        d = told.drive;
-        sum = added(sum, answer_seen(told.length, buffer));
-        k += 1;
-    }
-    sum
+        let length = tell(&mut drive, text, &mut buffer);
+        added(sum, answer_seen(length, &buffer))
+    })
 }
 
 // A number below a limit that tells nothing of the next one.
@@ -74,61 +77,38 @@ fn position_at(place: Place, k: u32) -> u32 {
     }
 }
 
-pub fn positions(place: Place, drive: Drive, count: u32) -> u32 {
+pub fn positions(place: Place, mut drive: Drive, count: u32) -> u32 {
     let mut buffer = [0u8; 64];
-    let mut d = drive;
-    let mut sum: u32 = 0;
-    let mut k: u32 = 0;
-    while k < count {
-        let position = position_at(place, k);
-        d.machine.state.position.0 = position;
-        let told = d.string(b"00QA\r", &mut buffer);
-        d = told.drive;
-        sum = added(sum, last_seen(told.length, &buffer));
-        k += 1;
-    }
-    sum
+    (0..count).fold(0, |sum, k| {
+        drive.machine.state.position.0 = position_at(place, k);
+        let length = tell(&mut drive, b"00QA\r", &mut buffer);
+        added(sum, last_seen(length, &buffer))
+    })
 }
 
 // A QM of a cell.
-fn request(address: u32) -> [u8; 9] {
-    let hundreds = digit(address / 100);
-    let tens = digit(address / 10);
-    [
-        b'0',
-        b'0',
-        b'Q',
-        b'M',
-        b',',
-        hundreds,
-        tens,
-        digit(address),
-        b'\r',
-    ]
+fn request(address: u8) -> [u8; 9] {
+    let mut text = *b"00QM,000\r";
+    text[5] += address / 100;
+    text[6] += address / 10 % 10;
+    text[7] += address % 10;
+    text
 }
 
 // Every byte that a cell shows.
-fn cell_seen(drive: Drive, address: u32) -> u32 {
-    let text = request(address);
+fn cell_seen(mut drive: Drive, address: u8) -> u32 {
     let mut buffer = [0u8; 64];
-    let told = drive.string(&text, &mut buffer);
-    let shown = Sum::new().with_all(front(&buffer, told.length));
-    shown.sum
+    let length = tell(&mut drive, &request(address), &mut buffer);
+    Sum::new().with_all(front(&buffer, length)).sum
 }
 
 // Each cell once: the sum then says which memory the calls are made on.
 pub fn cells(drive: Drive) -> u32 {
-    let mut sum: u32 = 0;
-    let mut k: u32 = 0;
-    while k < 131 {
-        sum = added(sum, cell_seen(drive, Drive::FIRST as u32 + k));
-        k += 1;
-    }
-    sum
+    (Drive::FIRST..=Drive::LAST).fold(0, |sum, address| added(sum, cell_seen(drive, address)))
 }
 
 // The inputs I0 to I2 count, so that no word starts or stops a program.
-fn given(event: Event, drive: Drive, k: u32) -> Done {
+fn given(event: Event, drive: Drive, k: u32) -> Result<Drive, Refused> {
     match event {
         Event::Inputs => drive.inputs((k % 8) as u16),
         Event::Millisecond => drive.millisecond(),
@@ -137,120 +117,96 @@ fn given(event: Event, drive: Drive, k: u32) -> Done {
     }
 }
 
-pub fn events(event: Event, drive: Drive, count: u32) -> u32 {
-    let mut d = drive;
-    let mut sum: u32 = 0;
-    let mut k: u32 = 0;
-    while k < count {
-        let done = given(event, d, k);
-        d = done.drive;
-        let refusal = done.refusal;
-        let state = d.machine.state;
-        sum = added(sum, seen(refusal, state));
-        k += 1;
+pub fn events(event: Event, mut drive: Drive, count: u32) -> u32 {
+    (0..count).fold(0, |sum, k| {
+        let number = match given(event, drive, k) {
+            Ok(next) => {
+                drive = next;
+                0
+            }
+            Err(refused) => refused.refusal.number(),
+        };
+        added(sum, seen(number, drive.machine.state))
+    })
+}
+
+// The milliseconds of each wait count too.
+pub fn waits(mut drive: Drive, budget: Milliseconds, count: u32) -> u32 {
+    (0..count).fold(0, |sum, _| {
+        let (milliseconds, number) = match drive.wait(budget) {
+            Ok(waited) => {
+                drive = waited.drive;
+                (waited.ending.given.0, 0)
+            }
+            Err(refused) => (0, refused.refusal.number()),
+        };
+        added(added(sum, milliseconds), seen(number, drive.machine.state))
+    })
+}
+
+// Calls on one drive that they leave as it is. Its IN counts, so that none is like the one before.
+fn varied<F: FnMut(u32, &Drive) -> u32>(mut drive: Drive, count: u32, mut shown: F) -> u32
+    requires { F.IsAlwaysCallable shown }
+{
+    let mut sum = 0;
+    for k in 0..count {
+        drive.machine.state.presets.current = (k % 4) as u8;
+        sum = shown(sum, &drive);
     }
     sum
 }
 
-// IN counts, so that no order is the one before it.
 pub fn orders(drive: Drive, count: u32) -> u32 {
-    let mut d = drive;
-    let mut sum: u32 = 0;
-    let mut k: u32 = 0;
-    while k < count {
-        let current = (k % 4) as u8;
-        d.machine.state.presets.current = current;
-        let order = d.order();
-        sum = added(sum, order_seen(order));
-        k += 1;
-    }
-    sum
+    varied(
+        drive,
+        count,
+        |sum, drive| added(sum, drive.order().map_or(0, order_seen)),
+    )
 }
 
-pub fn waits(drive: Drive, budget: Milliseconds, count: u32) -> u32 {
-    let mut d = drive;
-    let mut sum: u32 = 0;
-    let mut k: u32 = 0;
-    while k < count {
-        let waited = d.wait(budget);
-        d = waited.drive;
-        let ending = waited.ending;
-        let refusal = waited.refusal;
-        let state = d.machine.state;
-        sum = added(added(sum, wait_seen(ending)), seen(refusal, state));
-        k += 1;
-    }
-    sum
-}
-
-// IN counts, so that no image is the one before it.
 pub fn saves(drive: Drive, count: u32) -> u32 {
-    let mut d = drive;
     let mut buffer = [0u8; 2048];
-    let mut sum: u32 = 0;
-    let mut k: u32 = 0;
-    while k < count {
-        let current = (k % 4) as u8;
-        d.machine.state.presets.current = current;
-        let written = write(d, &mut buffer);
-        sum = added(sum, image_seen(written, &buffer));
-        k += 1;
-    }
-    sum
+    varied(drive, count, |sum, drive| {
+        let length = write(*drive, &mut buffer).unwrap_or(0);
+        added(sum, image_seen(length, &buffer))
+    })
 }
 
 // IN counts in the image, so that no drive is the one before it.
 pub fn loads(drive: Drive, count: u32) -> u32 {
     let mut buffer = [0u8; 2048];
-    let length = length_of(write(drive, &mut buffer));
-    let mut sum: u32 = 0;
-    let mut k: u32 = 0;
-    while k < count {
+    let length = write(drive, &mut buffer).unwrap_or(0);
+    (0..count).fold(0, |sum, k| {
         buffer[1] = (k % 4) as u8;
-        sum = added(sum, loaded_seen(read(front(&buffer, length))));
-        k += 1;
-    }
-    sum
+        let loaded = read(front(&buffer, length));
+        added(sum, loaded.map_or(0, loaded_seen))
+    })
 }
 
-// IN counts, so that no drive is the one before it.
 pub fn totals(drive: Drive, count: u32) -> u32 {
-    let mut d = drive;
-    let mut sum: u32 = 0;
-    let mut k: u32 = 0;
-    while k < count {
-        let current = (k % 4) as u8;
-        d.machine.state.presets.current = current;
-        sum = totals_seen(sum, along(d, CellAddress(100)));
-        k += 1;
-    }
-    sum
+    varied(
+        drive,
+        count,
+        |sum, drive| totals_seen(sum, along(drive, CellAddress(100))),
+    )
 }
 
 // What is seen of a string, and of a copy of the map after it.
 fn edited(drive: Drive, mut used: CellMap, text: &[u8]) -> u32 {
     let mut buffer = [0u8; 64];
     let told = usage::string(drive, &mut used, text, &mut buffer);
-    map_seen(told.length, &used)
+    map_seen(told.map_or(0, |told| told.length), &used)
 }
 
-// IN counts, so that no drive is the one before it. Memory and map are the same each time.
-fn told_with(drive: Drive, used: CellMap, text: &[u8], count: u32) -> u32 {
-    let mut d = drive;
-    let mut sum: u32 = 0;
-    let mut k: u32 = 0;
-    while k < count {
-        let current = (k % 4) as u8;
-        d.machine.state.presets.current = current;
-        sum = added(sum, edited(d, used, text));
-        k += 1;
-    }
-    sum
-}
-
-// A WN that is told again and again, with the map of the drive. The sum says which memory it is.
+// A WN that is told again and again, with the map of the drive; memory and map are the same each
+// time. The sum says which memory it is.
 pub fn edits(drive: Drive, text: &[u8], count: u32) -> u32 {
     let mut used = [false; 131];
-    usage::count(drive, &mut used);
-    added(cells(drive), told_with(drive, used, text, count))
+    usage::count(&drive, &mut used);
+    let sum = varied(
+        drive,
+        count,
+        |sum, drive| added(sum, edited(*drive, used, text)),
+    );
+    added(cells(drive), sum)
 }

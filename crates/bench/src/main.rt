@@ -8,7 +8,7 @@ mod memory;
 mod sums;
 
 use calls::{Event, Place};
-use decimal::parse::Number;
+use decimal::parse::read_number;
 use drive::Drive;
 use filling::fill;
 use memory::{Chain, chained};
@@ -42,190 +42,88 @@ fn moving() -> Drive {
 }
 
 // A string that is told again and again.
-fn told(text: &mut [u8], count: u32) -> u32 {
-    let mut buffer = [0u8; 64];
-    calls::strings(text, &mut buffer, idle(), count)
+fn told<const N: usize>(mut text: [u8; N], count: u32) -> u32 {
+    calls::strings(&mut text, idle(), count)
 }
 
-fn strings(name: &[u8], count: u32) -> u32 {
-    if check::same(name, b"wn") {
-        let mut text = *b"00WN,100,01,10,20,+5000,x1,101\r";
-        return told(&mut text, count);
-    }
-    if check::same(name, b"qm") {
-        let mut text = *b"00QM,100\r";
-        return told(&mut text, count);
-    }
-    if check::same(name, b"qa") {
-        let mut text = *b"00QA\r";
-        return told(&mut text, count);
-    }
-    positions(name, count)
-}
-
-fn positions(name: &[u8], count: u32) -> u32 {
-    if check::same(name, b"small") {
-        return calls::positions(Place::Small, idle(), count);
-    }
-    if check::same(name, b"ten") {
-        return calls::positions(Place::Ten, idle(), count);
-    }
-    if check::same(name, b"negative") {
-        return calls::positions(Place::Negative, idle(), count);
-    }
-    events(name, count)
-}
-
-fn events(name: &[u8], count: u32) -> u32 {
-    if check::same(name, b"inputs") {
-        return calls::events(Event::Inputs, idle(), count);
-    }
-    if check::same(name, b"delay") {
-        return calls::events(Event::Millisecond, delaying(), count);
-    }
-    if check::same(name, b"cell") {
-        return calls::events(Event::Millisecond, looping(), count);
-    }
-    if check::same(name, b"step") {
-        return calls::events(Event::Step, moving(), count);
-    }
-    others(name, count)
-}
-
-// Calls that change nothing. The cells are read, and not timed.
-fn others(name: &[u8], count: u32) -> u32 {
-    if check::same(name, b"refused") {
-        return calls::events(Event::Step, idle(), count);
-    }
-    if check::same(name, b"halted") {
-        return calls::events(Event::Halted, idle(), count);
-    }
-    if check::same(name, b"order") {
-        return calls::orders(moving(), count);
-    }
-    if check::same(name, b"cells") {
-        return calls::cells(idle());
-    }
-    waits(name, count)
-}
-
-fn waits(name: &[u8], count: u32) -> u32 {
-    if check::same(name, b"wait") {
-        return calls::waits(looping(), Milliseconds(1_000_000), count);
-    }
-    if check::same(name, b"long") {
-        return calls::waits(delaying(), Milliseconds(1_000_000), count);
-    }
-    if check::same(name, b"short") {
-        return calls::waits(delaying(), Milliseconds(60_000), count);
-    }
-    if check::same(name, b"longest") {
-        return calls::waits(delaying_longest(), Milliseconds(1_000_000), count);
-    }
-    images(name, count)
-}
-
-fn images(name: &[u8], count: u32) -> u32 {
-    if check::same(name, b"save") {
-        return calls::saves(idle(), count);
-    }
-    if check::same(name, b"load") {
-        return calls::loads(idle(), count);
-    }
-    totals(name, count)
-}
-
-fn totals(name: &[u8], count: u32) -> u32 {
-    if check::same(name, b"totals") {
-        return calls::totals(memory::walking(), count);
-    }
-    edits(name, count)
-}
-
-// A WN with the map of used cells: one that changes no way, one that adds a way to a chain, one
-// that takes it off.
-fn edits(name: &[u8], count: u32) -> u32 {
-    if check::same(name, b"kept") {
-        return calls::edits(chained(Chain::Up, 1), b"00WN,100,65,5,116\r", count);
-    }
-    added_ways(name, count)
-}
-
-fn added_ways(name: &[u8], count: u32) -> u32 {
-    if check::same(name, b"addup") {
-        return calls::edits(chained(Chain::Up, 0), b"00WN,100,00,116\r", count);
-    }
-    if check::same(name, b"adddown") {
-        return calls::edits(chained(Chain::Down, 0), b"00WN,100,00,230\r", count);
-    }
-    if check::same(name, b"addround") {
-        return calls::edits(chained(Chain::Round, 0), b"00WN,100,00,116\r", count);
-    }
-    lost_ways(name, count)
-}
-
-// The way from cell 100 is taken off; from 101 the chain can still be reached.
+// Two ways from a WN to the chain: from cell 101 it can still be reached when the one is taken off.
 fn without_way(chain: Chain, count: u32) -> u32 {
     calls::edits(chained(chain, 2), b"00WN,100,00,000\r", count)
 }
 
-fn lost_ways(name: &[u8], count: u32) -> u32 {
-    if check::same(name, b"offup") {
-        return without_way(Chain::Up, count);
+// Every benchmark, in the order in which `all` makes them.
+const NAMES: [&[u8]; 28] = [
+    b"wn",
+    b"qm",
+    b"qa",
+    b"small",
+    b"ten",
+    b"negative",
+    b"inputs",
+    b"delay",
+    b"cell",
+    b"step",
+    b"refused",
+    b"halted",
+    b"order",
+    b"wait",
+    b"long",
+    b"short",
+    b"longest",
+    b"cells",
+    b"save",
+    b"load",
+    b"totals",
+    b"kept",
+    b"addup",
+    b"adddown",
+    b"addround",
+    b"offup",
+    b"offdown",
+    b"offround",
+];
+
+fn one(name: &[u8], count: u32) -> u32 {
+    match name {
+        b"wn" => told(*b"00WN,100,01,10,20,+5000,x1,101\r", count),
+        b"qm" => told(*b"00QM,100\r", count),
+        b"qa" => told(*b"00QA\r", count),
+        b"small" => calls::positions(Place::Small, idle(), count),
+        b"ten" => calls::positions(Place::Ten, idle(), count),
+        b"negative" => calls::positions(Place::Negative, idle(), count),
+        b"inputs" => calls::events(Event::Inputs, idle(), count),
+        b"delay" => calls::events(Event::Millisecond, delaying(), count),
+        b"cell" => calls::events(Event::Millisecond, looping(), count),
+        b"step" => calls::events(Event::Step, moving(), count),
+        b"refused" => calls::events(Event::Step, idle(), count),
+        b"halted" => calls::events(Event::Halted, idle(), count),
+        b"order" => calls::orders(moving(), count),
+        b"cells" => calls::cells(idle()),
+        b"wait" => calls::waits(looping(), Milliseconds(1_000_000), count),
+        b"long" => calls::waits(delaying(), Milliseconds(1_000_000), count),
+        b"short" => calls::waits(delaying(), Milliseconds(60_000), count),
+        b"longest" => calls::waits(delaying_longest(), Milliseconds(1_000_000), count),
+        b"save" => calls::saves(idle(), count),
+        b"load" => calls::loads(idle(), count),
+        b"totals" => calls::totals(memory::walking(), count),
+        b"kept" => calls::edits(chained(Chain::Up, 1), b"00WN,100,65,5,116\r", count),
+        b"addup" => calls::edits(chained(Chain::Up, 0), b"00WN,100,00,116\r", count),
+        b"adddown" => calls::edits(chained(Chain::Down, 0), b"00WN,100,00,230\r", count),
+        b"addround" => calls::edits(chained(Chain::Round, 0), b"00WN,100,00,116\r", count),
+        b"offup" => without_way(Chain::Up, count),
+        b"offdown" => without_way(Chain::Down, count),
+        b"offround" => without_way(Chain::Round, count),
+        _ => 0,
     }
-    if check::same(name, b"offdown") {
-        return without_way(Chain::Down, count);
-    }
-    if check::same(name, b"offround") {
-        return without_way(Chain::Round, count);
-    }
-    0
 }
 
-// Every benchmark, one after the other.
-fn all(count: u32) -> u32 {
-    let mut sum = added(0, strings(b"wn", count));
-    sum = added(sum, strings(b"qm", count));
-    sum = added(sum, strings(b"qa", count));
-    sum = added(sum, positions(b"small", count));
-    sum = added(sum, positions(b"ten", count));
-    sum = added(sum, positions(b"negative", count));
-    sum = added(sum, events(b"inputs", count));
-    sum = added(sum, events(b"delay", count));
-    sum = added(sum, events(b"cell", count));
-    sum = added(sum, events(b"step", count));
-    sum = added(sum, others(b"refused", count));
-    sum = added(sum, others(b"halted", count));
-    sum = added(sum, others(b"order", count));
-    sum = added(sum, waits(b"wait", count));
-    sum = added(sum, waits(b"long", count));
-    sum = added(sum, waits(b"short", count));
-    sum = added(sum, waits(b"longest", count));
-    sum = added(sum, others(b"cells", count));
-    sum = added(sum, images(b"save", count));
-    sum = added(sum, images(b"load", count));
-    sum = added(sum, totals(b"totals", count));
-    sum = added(sum, edits(b"kept", count));
-    sum = added(sum, added_ways(b"addup", count));
-    sum = added(sum, added_ways(b"adddown", count));
-    sum = added(sum, added_ways(b"addround", count));
-    sum = added(sum, lost_ways(b"offup", count));
-    sum = added(sum, lost_ways(b"offdown", count));
-    added(sum, lost_ways(b"offround", count))
-}
-
+// A benchmark, or all of them, one after the other.
 fn named(name: &[u8], count: u32) -> u32 {
-    if check::same(name, b"all") {
-        return all(count);
-    }
-    strings(name, count)
-}
-
-fn count_in(text: &[u8]) -> u32 {
-    let number = decimal::parse::read_number(text);
-    match number {
-        Number::Value(count) => count,
-        Number::Bad => 0,
+    match name {
+        b"all" => NAMES
+            .iter()
+            .fold(0, |sum, &name| added(sum, one(name, count))),
+        _ => one(name, count),
     }
 }
 
@@ -234,7 +132,8 @@ fn asked(line: &[u8]) -> u32 {
     let end = scan::find(line, 0, line.len(), b'\n');
     let at = scan::find(line, 0, end, b' ');
     if at < end {
-        return named(&line[0..at], count_in(&line[at + 1..end]));
+        let count = read_number(&line[at + 1..end]).unwrap_or(0);
+        return named(&line[..at], count);
     }
     0
 }

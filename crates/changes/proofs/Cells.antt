@@ -37,7 +37,7 @@ unfolding all_valid fields_of fields_in choose code_of numbers_with valid list_o
 condition-valid i v j d t = ltb-true i.0 16 (both_left _ _ t)
 
 -- 01: "63 `II,V,EEE` (I0 to I2, PX, S0 to S3, F0 to F7)"
-pub condition-place :
+pub condition_place :
     (c : Cell) (i : ConditionName) (v : Bool) (j : CellAddress) → c.instruction ≡ ConditionalJump i v j → cell_sound c ≡ true → i.0 < 16
 unfolding cell_sound
-condition-place c i v j e t = condition-valid i v j c.next.0 (rw e at (both_left _ _ t))
+condition_place c i v j e t = condition-valid i v j c.next.0 (rw e at (both_left _ _ t))

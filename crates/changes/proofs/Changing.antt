@@ -3,11 +3,9 @@
 -- Assumes nothing.
 use Prim.Native.Nat.{ℕ, ◌-◌, ◌<◌}
 use native.Mathlib.Omega.{arith}
-use mathlib.Core.Path.{◌≡◌, refl, sym, ap, subst, ◌∙◌}
+use mathlib.Core.Path.{◌≡◌, refl, sym, ap, ◌∙◌}
 use mathlib.Core.Bool.{Bool, true, false}
-use mathlib.Core.List.{List}
 use lib.Dec.{eqb, leb}
-use borrow.Author.Tests.{ne_eqb}
 use Rattle.laws.specs.Tests.{choose, either, same}
 use Rattle.laws.proofs.Tests.{choose-by, choose-false, choose-map, either_left}
 use Rattle.units.specs.declared.CellAddress.{CellAddress}
@@ -21,7 +19,7 @@ use Rattle.instruction.specs.declared.Instruction.TheVariants.{Null, IndexedRamp
 use Rattle.instruction.specs.declared.Instruction.TheVariants.{Indexed, IndexedFine, Free, FreeFine, ZeroSearch, DelayedStop}
 use Rattle.instruction.specs.declared.Instruction.TheVariants.{CamSetting, OutputSetting, CounterReset, OpeningLoop, ClosingLoop}
 use Rattle.instruction.specs.declared.Instruction.TheVariants.{ConditionalJump, TimeDelay, Recovery, CurrentSetting}
-use Rattle.machine.specs.Record.{idle, origin, out_cu, stopped, with_cam, with_loop_count, with_output, with_position, with_running}
+use Rattle.machine.specs.Record.{idle, origin, out_cu, with_cam, with_loop_count, with_output, with_position, with_running}
 use Rattle.machine.specs.Starting.{advanced, failed}
 use Rattle.machine.specs.Soundness.{run_phase}
 use Rattle.machine.specs.Taking.{level_at, condition_at, take_closing_loop, take_conditional_jump, take_time_delay, take_run, take, is_recovery, take_cell}
@@ -30,12 +28,11 @@ use Rattle.machine.specs.declared.Phase.{Phase}
 use Rattle.machine.specs.declared.Phase.TheVariants.{Waiting, Delay, Run, Braking, Slowing, EmergencySlowing, BackOff}
 use Rattle.machine.specs.declared.Remaining.{Remaining}
 use Rattle.machine.specs.declared.Remaining.TheVariants.{Nothing, Counted, Timed}
-use Rattle.machine.specs.declared.Running.{Running}
 use Rattle.machine.specs.declared.State.{State}
 use Rattle.progress.specs.Passing.{passed_to}
 use Rattle.progress.proofs.Passing.{passing}
-use Rattle.changes.specs.Changes.{is_more, delay_of, running_after, part_set, changed_by, place_in, closing_loop, time_delay, change_of, taken_change}
-use Rattle.changes.specs.Changes.{delay_change, change_in, change_at, next_change}
+use Rattle.changes.specs.Changes.{is_more, delay_of, changed_by, place_in, closing_loop, time_delay, change_of, taken_change}
+use Rattle.changes.specs.Changes.{delay_change, change_in, next_change}
 use Rattle.changes.specs.declared.Change.{Change}
 use Rattle.changes.specs.declared.Change.TheVariants as change
 use Rattle.changes.proofs.Cells.{output-place}
@@ -58,15 +55,6 @@ closing-changed s jump next =
 closing-plain : (n : ℕ) (jump next : CellAddress) → is_more (closing_loop n jump next) ≡ false
 unfolding closing_loop
 closing-plain n jump next = choose-by (λ (x : Change). is_more x ≡ false) _ (λ t. refl) (λ t. refl)
-
--- the last turn, and one before it
-pub closing-last : (n : ℕ) (jump next : CellAddress) → n ≡ 1 → change.Advance next 0 ≡ closing_loop n jump next
-unfolding closing_loop choose
-closing-last n jump next e = rw e
-
-pub closing-other : (n : ℕ) (jump next : CellAddress) → (n ≡ 0 → ⊥) → (n ≡ 1 → ⊥) → change.Advance jump (n - 1) ≡ closing_loop n jump next
-unfolding closing_loop choose
-closing-other n jump next h k = simp (ne_eqb n 0 h, ne_eqb n 1 k)
 
 -- a delay that begins or goes on, or else the next cell
 delay-or-next :
@@ -137,35 +125,11 @@ more-exactly s (TimeDelay n) next = delay-plain n s.running.loops next
 more-exactly s Recovery next = refl
 more-exactly s (CurrentSetting v) next = refl
 
--- a 69 ends the program where it is taken as any other cell
-pub recovery-stops : (s : State) (i : Instruction) (next : CellAddress) → code_of i ≡ 69 → stopped s ≡ take s i next
-unfolding code_of take
-recovery-stops s Null next k = absurd (omega arith)
-recovery-stops s (IndexedRamp f r x n) next k = absurd (omega arith)
-recovery-stops s (IndexedRampFine f r x n) next k = absurd (omega arith)
-recovery-stops s (FreeRamp f r b x) next k = absurd (omega arith)
-recovery-stops s (FreeRampFine f r b x) next k = absurd (omega arith)
-recovery-stops s (Indexed f x n) next k = absurd (omega arith)
-recovery-stops s (IndexedFine x f n) next k = absurd (omega arith)
-recovery-stops s (Free f b x) next k = absurd (omega arith)
-recovery-stops s (FreeFine b x f) next k = absurd (omega arith)
-recovery-stops s (ZeroSearch f r b l) next k = absurd (omega arith)
-recovery-stops s (DelayedStop f r t n) next k = absurd (omega arith)
-recovery-stops s (CamSetting v p) next k = absurd (omega arith)
-recovery-stops s (OutputSetting o v) next k = absurd (omega arith)
-recovery-stops s CounterReset next k = absurd (omega arith)
-recovery-stops s (OpeningLoop n) next k = absurd (omega arith)
-recovery-stops s (ClosingLoop e) next k = absurd (omega arith)
-recovery-stops s (ConditionalJump i v e) next k = absurd (omega arith)
-recovery-stops s (TimeDelay n) next k = absurd (omega arith)
-recovery-stops s Recovery next k = refl
-recovery-stops s (CurrentSetting v) next k = absurd (omega arith)
-
 -- of what changes more, all but a 69 is a run
 pub more-runs :
-    (s : State) (i : Instruction) (next : CellAddress) → is_more (taken_change s i next) ≡ true → (code_of i ≡ 69 → ⊥) →
+    (s : State) (i : Instruction) (next : CellAddress) → is_more (taken_change s i next) ≡ true → (i ≡ Recovery → ⊥) →
     take_run s (profile_of i) next ≡ take s i next
-unfolding change_of code_of take
+unfolding change_of take
 more-runs s Null next h k = cc
 more-runs s (IndexedRamp f r x n) next h k = refl
 more-runs s (IndexedRampFine f r x n) next h k = refl
@@ -265,11 +229,6 @@ phase-place Slowing s c t = omega arith
 phase-place EmergencySlowing s c t = omega arith
 phase-place BackOff s c t = omega arith
 
--- the change in the phase that the drive is in
-module _ (r : Running) (ins outs : List Bool) (c : Cell) where
-  pub phase-next : {p : Phase} → r.phase ≡ p → change_in p r ins outs c ≡ change_at r ins outs c
-  phase-next e = ap (λ (p : Phase). change_in p r ins outs c) (sym e)
-
 -- ---- the change that the code has found
 
 module _ {x : Change} (s : State) (c : Cell) (e : x ≡ next_change s c) where
@@ -296,12 +255,3 @@ module _ {x : Change} (s : State) (c : Cell) (e : x ≡ taken_change s c.instruc
 pub millisecond-more : (s : State) (c h : Cell) → idle s ≡ false → s.running.phase ≡ Waiting → take_cell s c h ≡ millisecond_at s c h
 unfolding millisecond_at millisecond_in
 millisecond-more s c h i w = ap (λ (p : Phase). millisecond_in p s c h) (sym w) ∙ sym (choose-false _ _ _ i)
-
--- the running part replaced, and the other part that the change sets, where it sets one
-pub carried :
-    {x y : Change} {r : Running} (s : State) → x ≡ y → r ≡ running_after x s.running → with_running (part_set y s) r ≡ changed_by x s
-carried {x} {y} {r} s e q = ap (λ (z : Change). with_running (part_set z s) r) (sym e) ∙ ap (with_running (part_set x s)) q
-
--- the place of an output that is set by a change that is known
-pub place-known : {x : Change} (y : Change) → x ≡ y → place_in x < 14 → place_in y < 14
-place-known y e h = subst (λ (z : Change). place_in z < 14) e h

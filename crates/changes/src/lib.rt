@@ -1,15 +1,14 @@
-// What taking a cell and a millisecond change, code by code. A millisecond carries the change out
-// by value, a wait in place, where a state handed on by value would be copied. A run that begins
-// and a 69 change more.
+// What taking a cell and a millisecond change, code by code. A change is carried out in place, and
+// by value for a caller that hands a state on. A run that begins and a 69 change more.
 #![tactic(auto)]
 
 ghost use Rattle.std.specs.Prelude.{◌<◌, ◌≡◌, true};
 ghost use Rattle.laws.specs.Tests.{choose, same};
 ghost use Rattle.instruction.specs.Soundness.{cell_sound};
 ghost use Rattle.machine.specs.Taking.{level_at};
-ghost use Rattle.changes.specs.Changes.{change_at, change_of, changed_by, closing_loop};
-ghost use Rattle.changes.specs.Changes.{delay_change, delay_of, is_more, next_change};
-ghost use Rattle.changes.specs.Changes.{place_in, running_after, taken_change, time_delay};
+ghost use Rattle.changes.specs.Changes.{changed_by, closing_loop, delay_change, delay_of, is_more};
+ghost use Rattle.changes.specs.Changes.{next_change, place_in, running_after, taken_change};
+ghost use Rattle.changes.specs.Changes.{time_delay};
 
 use instruction::{Cell, Instruction};
 use machine::{Cam, Fault, Phase, Remaining, Running, State};
@@ -38,49 +37,18 @@ pub enum Change {
 pub fn is_more(change: Change) -> bool
     ensures { result ≡ is_more change }
 {
-    match change {
-        Change::Nothing => false,
-        Change::Advance(_, _) => false,
-        Change::Output(_, _, _) => false,
-        Change::Cam(_, _) => false,
-        Change::Position(_, _) => false,
-        Change::Delay(_, _) => false,
-        Change::Fault(_) => false,
-        Change::More => true,
-    }
+    matches!(change, Change::More)
 }
 
 // The running part in a delay of which so much remains.
 pub fn delaying(running: Running, at_speed: bool, delay: Milliseconds) -> Running
     ensures { result ≡ delay_of running at_speed delay }
 {
-    let cell = running.cell;
-    let loops = running.loops;
     Running {
-        cell,
         phase: Phase::Delay,
         remaining: Remaining::Timed(delay),
-        loops,
         at_speed,
-    }
-}
-
-// The running part as it is, by its fields: copied whole, the bytes between them would be carried
-// through each turn of a wait.
-fn unchanged(running: Running) -> Running
-    ensures { result ≡ running }
-{
-    let cell = running.cell;
-    let phase = running.phase;
-    let remaining = running.remaining;
-    let loops = running.loops;
-    let at_speed = running.at_speed;
-    Running {
-        cell,
-        phase,
-        remaining,
-        loops,
-        at_speed,
+        ..running
     }
 }
 
@@ -89,102 +57,99 @@ pub fn running_after(change: Change, running: Running) -> Running
     ensures { result ≡ running_after change running }
 {
     match change {
-        Change::Nothing => unchanged(running),
+        // By its fields: copied whole, the bytes between them would be carried through each turn
+        // of a wait.
+        Change::Nothing | Change::More => Running { ..running },
         Change::Advance(next, loops) => passed(next, loops),
-        Change::Output(next, _, _) => passed(next, running.loops),
-        Change::Cam(next, _) => passed(next, running.loops),
-        Change::Position(next, _) => passed(next, running.loops),
+        Change::Output(next, _, _) | Change::Cam(next, _) | Change::Position(next, _) => {
+            passed(next, running.loops)
+        }
         Change::Delay(at_speed, delay) => delaying(running, at_speed, delay),
         Change::Fault(_) => at_rest(),
-        Change::More => unchanged(running),
     }
 }
 
-// Carries a change out by value. One of more is left to the caller.
+// Carries a change out in place. One of more is left to the caller.
+pub fn carry_out(state: &mut State, change: Change)
+    requires { place_in change < 14 }
+    ensures { state.new ≡ changed_by change state.old }
+{
+    let cell = state.running.cell;
+    state.running = running_after(change, state.running);
+    match change {
+        Change::Output(_, place, on) => state.outputs[place as usize] = on,
+        Change::Cam(_, cam) => state.cam = cam,
+        Change::Position(_, position) => state.position = position,
+        Change::Fault(code) => state.fault = Fault { code, cell },
+        _ => {}
+    }
+}
+
+// The same by value.
 pub fn changed(mut state: State, change: Change) -> State
     requires { place_in change < 14 }
     ensures { result ≡ changed_by change state }
 {
-    let at = state.running.cell;
-    let running = running_after(change, state.running);
-    state.running = running;
-    match change {
-        Change::Output(_, place, on) => {
-            let k = place as usize;
-            state.outputs[k] = on;
-        }
-        Change::Cam(_, cam) => {
-            state.cam = cam;
-        }
-        Change::Position(_, position) => {
-            state.position = position;
-        }
-        Change::Fault(code) => {
-            let fault = Fault { code, cell: at };
-            state.fault = fault;
-        }
-        _ => {}
-    }
+    carry_out(&mut state, change);
     state
 }
 
 // A 62: error 52 at count 0; else one less, then the next cell at 0, the jump otherwise.
+#[tactic(auto, unfolding(crate::specs::Changes::closing_loop, laws::specs::Tests::choose))]
 fn closing_loop(loops: u16, jump: CellAddress, next: CellAddress) -> Change
     ensures { result ≡ closing_loop loops jump next }
 {
-    if loops == 0 {
-        return Change::Fault(52);
+    match loops {
+        0 => Change::Fault(52),
+        1 => Change::Advance(next, 0),
+        _ => Change::Advance(jump, loops - 1),
     }
-    if loops == 1 {
-        return Change::Advance(next, 0);
-    }
-    Change::Advance(jump, loops - 1)
 }
 
 // The level of an input or a flag that a 63 names.
 #[tactic(auto, unfolding(machine::specs::Taking::level_at, laws::specs::Tests::choose))]
-fn condition_at<'a>(inputs: &'a [bool; 11], outputs: &'a [bool; 14], place: u8) -> bool
+fn condition_at(state: &State, place: u8) -> bool
     requires { place < 16 }
-    ensures { result ≡ level_at inputs.now outputs.now place }
+    ensures { result ≡ level_at state.now.inputs state.now.outputs place }
 {
     let k = place as usize;
     if k < 8 {
-        return inputs[k];
+        state.inputs[k]
+    } else {
+        state.outputs[State::F0 + (k - 8)]
     }
-    let flag = k - 8;
-    outputs[State::F0 + flag]
 }
 
 // Where a 63 goes: to the jump where the level is the one that it asks for.
+#[tactic(auto, unfolding(laws::specs::Tests::choose, laws::specs::Tests::same))]
 fn jump_or_next(level: bool, on: bool, jump: CellAddress, next: CellAddress) -> CellAddress
     ensures { result ≡ choose (same level on) jump next }
 {
-    if level == on {
-        return jump;
-    }
-    next
+    if level == on { jump } else { next }
 }
 
 // A 65: its delay begins; one of 0 is passed.
+#[tactic(auto, unfolding(crate::specs::Changes::time_delay, laws::specs::Tests::choose))]
 fn time_delay(delay: Milliseconds, loops: u16, next: CellAddress) -> Change
     ensures { result ≡ time_delay delay loops next }
 {
     if delay.0 == 0 {
-        return Change::Advance(next, loops);
+        Change::Advance(next, loops)
+    } else {
+        Change::Delay(false, delay)
     }
-    Change::Delay(false, delay)
 }
 
-// What taking a cell changes, given the loop count and the levels that a 63 looks at.
-#[tactic(auto, unfolding(crate::specs::Changes::change_of))]
-fn change_of<'a>(cell: Cell, loops: u16, inputs: &'a [bool; 11], outputs: &'a [bool; 14]) -> Change
+// What taking a cell changes of a state, whatever its phase. The state is lent: handed on by value,
+// it would be copied to look one level up.
+#[tactic(auto, using(crate::proofs::Cells::condition_place), unfolding(crate::specs::Changes::change_of))]
+pub fn taken_change(state: &State, cell: Cell) -> Change
     requires { cell_sound cell ≡ true }
-    ensures { result ≡
-        change_of loops inputs.now outputs.now cell.instruction cell.next }
+    ensures { result ≡ taken_change state.now cell.instruction cell.next }
 {
-    let instruction = cell.instruction;
+    let loops = state.running.loops;
     let next = cell.next;
-    match instruction {
+    match cell.instruction {
         Instruction::Null => Change::Advance(next, loops),
         Instruction::CamSetting { set, position } => Change::Cam(next, Cam { set, position }),
         Instruction::OutputSetting { output, on } => Change::Output(next, output.0, on),
@@ -196,7 +161,7 @@ fn change_of<'a>(cell: Cell, loops: u16, inputs: &'a [bool; 11], outputs: &'a [b
             on,
             jump,
         } => {
-            let level = condition_at(inputs, outputs, condition.0);
+            let level = condition_at(state, condition.0);
             Change::Advance(jump_or_next(level, on, jump, next), loops)
         }
         Instruction::TimeDelay { delay } => time_delay(delay, loops, next),
@@ -206,64 +171,26 @@ fn change_of<'a>(cell: Cell, loops: u16, inputs: &'a [bool; 11], outputs: &'a [b
 }
 
 // A millisecond of a delay: one less remains, and after the last the program goes on.
-fn tick(delay: Milliseconds, at_speed: bool, loops: u16, next: CellAddress) -> Change
-    ensures { result ≡ delay_change (Remaining.Timed delay) at_speed loops next }
+#[tactic(auto, unfolding(crate::specs::Changes::delay_change, laws::specs::Tests::choose))]
+fn delay_change(running: Running, next: CellAddress) -> Change
+    ensures { result ≡ delay_change running.remaining running.at_speed running.loops next }
 {
-    let n = delay.0;
-    if n <= 1 {
-        return Change::Advance(next, loops);
-    }
-    let left = n - 1;
-    Change::Delay(at_speed, Milliseconds(left))
-}
-
-fn delay_change(remaining: Remaining, at_speed: bool, loops: u16, next: CellAddress) -> Change
-    ensures { result ≡ delay_change remaining at_speed loops next }
-{
-    match remaining {
-        Remaining::Nothing => Change::Nothing,
-        Remaining::Counted(_) => Change::Nothing,
-        Remaining::Timed(delay) => tick(delay, at_speed, loops, next),
+    match running.remaining {
+        Remaining::Timed(delay) if delay.0 <= 1 => Change::Advance(next, running.loops),
+        Remaining::Timed(delay) => Change::Delay(running.at_speed, Milliseconds(delay.0 - 1)),
+        Remaining::Nothing | Remaining::Counted(_) => Change::Nothing,
     }
 }
 
-// What the next millisecond of a busy drive changes, given its running part and its levels. They
-// are lent, since a state handed on by value would be copied to look one level up.
+// What the next millisecond of a busy drive changes.
 #[tactic(auto, unfolding(crate::specs::Changes::change_in))]
-pub fn change_at<'a>(
-    running: Running,
-    inputs: &'a [bool; 11],
-    outputs: &'a [bool; 14],
-    cell: Cell,
-) -> Change
+pub fn next_change(state: &State, cell: Cell) -> Change
     requires { cell_sound cell ≡ true }
-    ensures { result ≡ change_at running inputs.now outputs.now cell }
+    ensures { result ≡ next_change state.now cell }
 {
-    let phase = running.phase;
-    match phase {
-        Phase::Waiting => change_of(cell, running.loops, inputs, outputs),
-        Phase::Delay => {
-            let remaining = running.remaining;
-            let next = cell.next;
-            delay_change(remaining, running.at_speed, running.loops, next)
-        }
+    match state.running.phase {
+        Phase::Waiting => taken_change(state, cell),
+        Phase::Delay => delay_change(state.running, cell.next),
         _ => Change::Nothing,
     }
-}
-
-// The same of a state.
-pub fn next_change(state: State, cell: Cell) -> Change
-    requires { cell_sound cell ≡ true }
-    ensures { result ≡ next_change state cell }
-{
-    change_at(state.running, &state.inputs, &state.outputs, cell)
-}
-
-// What taking a cell changes of a state, whatever its phase.
-pub fn taken_change(state: State, cell: Cell) -> Change
-    requires { cell_sound cell ≡ true }
-    ensures { result ≡ taken_change state cell.instruction cell.next }
-{
-    let loops = state.running.loops;
-    change_of(cell, loops, &state.inputs, &state.outputs)
 }

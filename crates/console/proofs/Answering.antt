@@ -11,16 +11,15 @@ use Rattle.laws.specs.Tests.{choose}
 use Rattle.laws.specs.Writing.{Put}
 use Rattle.machine.specs.Soundness.{sound}
 use Rattle.machine.specs.Strings.{told}
-use Rattle.machine.specs.Calls.{Shown, Outcome, act, apply, next, refused, answered}
+use Rattle.machine.specs.Calls.{Outcome, act, apply, next, refused, answered}
 use Rattle.machine.specs.Calls.Call.{SendString, Wait}
 use Rattle.machine.specs.Operations.{filled, buffer_after}
 use Rattle.machine.specs.declared.Machine.{Machine}
 use Rattle.lines.proofs.Lending.{put-part}
-use Rattle.drive.specs.Results.{told_as, waited_as}
 use Rattle.drive.specs.declared.results.Told.{Told}
-use Rattle.drive.specs.declared.results.Waited.{Waited}
 use Rattle.console.specs.Console.{lent, answer_to, after_string}
 use Rattle.console.specs.Serving.{Answers}
+use Rattle.console.specs.declared.server.Server.{Server}
 
 -- what a buffer of 64 bytes holds makes no difference
 lent_any : (s l : List ℕ) (m : Machine) → length l ≡ 64 → apply (SendString s l) m ≡ apply (SendString s lent) m
@@ -28,13 +27,15 @@ unfolding apply act lent
 lent_any s l m e = ap (λ (n : ℕ). choose (sound m) (choose (ltb n 64) (refused 3 m) (answered (told s m))) (refused 2 m)) e
 
 pub answered-so :
-    (s : List ℕ) (m : Machine) (l : List ℕ) (w k : ℕ) (ys : List ℕ) (t : Told) (v : Waited) (shown : List Shown) (n : ℕ) →
+    (s : List ℕ) (m : Machine) (l : List ℕ) (w k : ℕ) (ys : List ℕ) (t : Told) (r : Server) (n : ℕ) →
     w + 64 ≤ length l → k ≡ 64 → length ys ≡ length (take k (drop w l)) →
-    told_as t ys ≡ apply (SendString s (take k (drop w l))) m → ys ≡ buffer_after s (take k (drop w l)) m →
-    waited_as v shown ≡ apply (Wait 1000) t.drive.machine → n ≡ min t.length 64 →
-    Answers s m l w (take w l ++ (ys ++ drop k (drop w l))) (record { drive = v.drive; written = w + n })
-unfolding told_as waited_as answer_to after_string next buffer_after filled
-answered-so s m l w k ys t v shown n hl hk hy ht hb hv hn = record { machine = machine; put = put; within = omega (arith, hn) }
+    t.drive.machine ≡ next (SendString s (take k (drop w l))) m →
+    take t.length ys ≡ (apply (SendString s (take k (drop w l))) m).answer → ys ≡ buffer_after s (take k (drop w l)) m →
+    r.drive.machine ≡ next (Wait 1000) t.drive.machine → n ≡ min t.length 64 →
+    r.out ≡ take w l ++ (ys ++ drop k (drop w l)) → r.held ≡ 0 → Answers s m l w r (w + n)
+unfolding answer_to after_string next buffer_after filled
+answered-so s m l w k ys t r n hl hk hy hm ha hb hv hn ho hz =
+    record { machine = machine; put = rw ho put; within = omega (arith, hn); ended = hz }
   where
     part : List ℕ
     part = take k (drop w l)
@@ -42,20 +43,18 @@ answered-so s m l w k ys t v shown n hl hk hy ht hb hv hn = record { machine = m
     size : length part ≡ 64
     size = length-take-le k (drop w l) (rw (length-drop w l) (omega arith)) ∙ hk
 
-    sent : told_as t ys ≡ apply (SendString s lent) m
-    sent = ht ∙ lent_any s part m size
+    same : apply (SendString s part) m ≡ apply (SendString s lent) m
+    same = lent_any s part m size
 
-    machine : v.drive.machine ≡ after_string s m
-    machine =
-        ap (λ (o : Outcome). o.machine) hv
-        ∙ ap (λ (x : Machine). (apply (Wait 1000) x).machine) (ap (λ (o : Outcome). o.machine) sent)
+    machine : r.drive.machine ≡ after_string s m
+    machine = hv ∙ ap (λ (x : Machine). (apply (Wait 1000) x).machine) (hm ∙ ap (λ (o : Outcome). o.machine) same)
 
     long : n ≡ length (answer_to s m)
     long =
         hn
         ∙ ap (λ (i : ℕ). min t.length i) (sym (hy ∙ size))
         ∙ sym (length-take t.length ys)
-        ∙ ap (λ (o : Outcome). length o.answer) sent
+        ∙ ap length (ha ∙ ap (λ (o : Outcome). o.answer) same)
 
     now : ys ≡ filled (answer_to s m) part
     now = hb ∙ ap (λ (o : Outcome). filled o.answer part) (lent_any s part m size)

@@ -18,7 +18,7 @@ use Rattle.instruction.specs.Texts.{cell_text, sent_fields, sent_code, sent_cell
 use Rattle.machine.specs.Acting.{keeps_suspended, stored_state, named, acted_at, cells_after, named_cell, machine_after}
 use Rattle.machine.specs.Answers.{position_text, memory_text, answer_of, accepted, answer_at}
 use Rattle.machine.specs.Calls.{act, apply, next}
-use Rattle.machine.specs.Commands.{code_in, on_fields, on_all, on_sent, store_in, command_of, is_code, command_by}
+use Rattle.machine.specs.Commands.{code_in, on_parsed, on_fields, on_all, on_sent, store_in, command_of, is_code, command_by}
 use Rattle.machine.specs.Milliseconds.{present, count_down, millisecond_in, millisecond, millisecond_at}
 use Rattle.machine.specs.Record.{cell_at, stored_at, fresh, idle, moving}
 use Rattle.machine.specs.Soundness.{presets_sound, is_cell, position_sound, cam_sound, fault_sound, loop_count_sound, time_remaining, is_nothing}
@@ -42,7 +42,7 @@ texts = tt
 
 -- which strings are heard, what they do and how they are answered
 heard : Unit {0}
-unfolding position_text memory_text answer_of accepted answer_at code_in on_fields on_all on_sent store_in command_of is_code command_by cell_at stored_at
+unfolding position_text memory_text answer_of accepted answer_at code_in on_parsed on_fields on_all on_sent store_in command_of is_code command_by cell_at stored_at
     fresh idle moving carried_out ended body_of is_digit addressed is_stop free to_every permitted judged unanswered told header_of admitted is_start
     allowed told_in told_by keeps_suspended stored_state named acted_at cells_after named_cell machine_after act apply next
 heard = tt

@@ -12,12 +12,11 @@ use lib.Dec.{eqb}
 use Rattle.laws.proofs.Tests.{lt-or-le}
 use Rattle.machine.specs.Record.{fresh}
 use Rattle.machine.specs.declared.Machine.{Machine}
-use Rattle.drive.specs.declared.Drive.{Drive}
 use Rattle.lines.specs.Strings.{given}
 use Rattle.console.specs.Console.{answer_to, after_string, Standing, standing, byte_taken, console, standing_after, output_of}
-use Rattle.console.specs.Serving.{Serves, served_in, Reached, Reachable, Exchanges}
+use Rattle.console.specs.Serving.{Serves, at_work, Reached, Reachable, Exchanges}
 use Rattle.console.specs.declared.Exchange.{Exchange}
-use Rattle.console.specs.declared.serving.Served.{Served}
+use Rattle.console.specs.declared.server.Server.{Server}
 
 -- of what is held the first 64 bytes count, also when more comes
 cut-append : (h x : List ℕ) → take 64 (take 64 h ++ x) ≡ take 64 (h ++ x)
@@ -73,56 +72,48 @@ console-append (x ∷ a) b c = console-append a b (byte_taken (eqb x 13) x c)
 
 -- a served part, after any input
 pub serves-exchanges :
-    {m : Machine} {s b l out : List ℕ} {r : Exchange} → Serves (console b (standing m s [])) l out (served_in r) → r.read ≡ length b →
-    Exchanges m s b l out r
+    {q r : Server} {b : List ℕ} {e : Exchange} → Serves (console b (at_work q)) r e.written → e.read ≡ length b → Exchanges q b r e
 unfolding standing_after output_of
-serves-exchanges {m} {s} {b} {l} {out} {r} h came =
+serves-exchanges {q} {r} {b} {e} h came =
     record {
-      reached = λ i e. record { machine = h.machine ∙ sym (both i e).machine; held = h.held ∙ sym (both i e).held };
-      within = h.within;
-      written = λ i e. (both i e).written ∙ ap (λ (x : List ℕ). output_of i ++ x) (sym h.written);
-      fits = omega (arith, h.count, length-take r.written out, ap length h.written);
+      reached = λ i k. record { machine = h.machine ∙ sym (both i k).machine; held = h.held ∙ sym (both i k).held };
+      written = λ i k. (both i k).written ∙ ap (λ (x : List ℕ). output_of i ++ x) (sym h.written);
+      fits = omega (arith, h.count, length-take e.written r.out, ap length h.written);
       read = came;
     }
   where
-    first : (input : List ℕ) → Reached input m s → Alike (output_of input) (standing_after input) (standing m s [])
-    first i e =
+    first : (input : List ℕ) → Reached input q → Alike (output_of input) (standing_after input) (at_work q)
+    first i k =
         record {
-          machine = sym e.machine;
-          held = sym (ap (λ (x : List ℕ). take 64 x) e.held ∙ take-take 64 64 (standing_after i).held (omega arith));
+          machine = sym k.machine;
+          held = sym (ap (λ (x : List ℕ). take 64 x) k.held ∙ take-take 64 64 (standing_after i).held (omega arith));
           written = sym (append-nil (output_of i));
         }
 
-    both : (input : List ℕ) → Reached input m s → Alike (output_of input) (standing_after (input ++ b)) (console b (standing m s []))
-    both i e =
-        subst (λ (c : Standing). Alike (output_of i) c (console b (standing m s []))) (sym (console-append i b _))
-        (console-alike b (first i e))
+    both : (input : List ℕ) → Reached input q → Alike (output_of input) (standing_after (input ++ b)) (console b (at_work q))
+    both i k =
+        subst (λ (c : Standing). Alike (output_of i) c (console b (at_work q))) (sym (console-append i b _))
+        (console-alike b (first i k))
 
 -- no part at all
-pub serves-nothing :
-    (d : Drive) (l out : List ℕ) (n : ℕ) → n ≤ 64 →
-    Serves (console [] (standing d.machine (take n l) [])) l out (record { drive = d; length = n; written = 0 })
+pub serves-nothing : (r : Server) → Serves (console [] (at_work r)) r 0
 unfolding console
-serves-nothing d l out n h =
+serves-nothing r =
     record {
       machine = refl;
-      held = sym (take_all 64 (take n l) (rw (length-take n l) (omega arith)));
-      within = h;
+      held = sym (take_all 64 (take r.held r.string) (rw (length-take r.held r.string) (omega (arith, r.kept))));
       written = refl;
       count = refl;
     }
 
 -- the answers are handed over whole
-pub serves-handed :
-    {c : Standing} {l out : List ℕ} {r : Served} (k : ℕ) → Serves c l out r → k ≡ length (take r.written out) →
-    Serves c l out (record { drive = r.drive; length = r.length; written = k })
-serves-handed {c} {l} {out} {r} k h e =
-    let all : k ≡ r.written = e ∙ ap length h.written ∙ sym h.count in
+pub serves-handed : {c : Standing} {r : Server} {w : ℕ} (k : ℕ) → Serves c r w → k ≡ length (take w r.out) → Serves c r k
+serves-handed {c} {r} {w} k h e =
+    let all : k ≡ w = e ∙ ap length h.written ∙ sym h.count in
     record {
       machine = h.machine;
       held = h.held;
-      within = h.within;
-      written = ap (λ (x : ℕ). take x out) all ∙ h.written;
+      written = ap (λ (x : ℕ). take x r.out) all ∙ h.written;
       count = all ∙ h.count;
     }
 
@@ -136,11 +127,10 @@ read-front p q k n h e =
 
 -- ---- where the program is
 
-pub reachable-first : (m : Machine) → m ≡ fresh (record { 0 = 0 }) → Reachable m []
+pub reachable-first : (r : Server) → r.drive.machine ≡ fresh (record { 0 = 0 }) → r.held ≡ 0 → Reachable r
 unfolding standing_after console
-reachable-first m h = record { input = []; reached = record { machine = h; held = refl } }
+reachable-first r h k =
+    record { input = []; reached = record { machine = h; held = ap (λ (n : ℕ). take n r.string) k } }
 
-pub reachable-next :
-    {m : Machine} {s b l out : List ℕ} {r : Exchange} → Reachable m s → Exchanges m s b l out r →
-    Reachable r.drive.machine (take r.length l)
-reachable-next {m} {s} {b} h e = record { input = h.input ++ b; reached = e.reached h.input h.reached }
+pub reachable-next : {q r : Server} {b : List ℕ} {e : Exchange} → Reachable q → Exchanges q b r e → Reachable r
+reachable-next {q} {r} {b} h e = record { input = h.input ++ b; reached = e.reached h.input h.reached }

@@ -10,6 +10,7 @@ use lib.ListN.{length, take, drop, length-take, length-drop, length-append}
 use lib.Seq.{drop-drop, take_all, take-append_seam}
 use lib.Dec.{eqb, ltb}
 use borrow.Author.Tests.{ltb-true, ltb-false}
+use Rattle.std.specs.Prelude.{Option, Some, None, is_some, unwrap_or}
 use Rattle.laws.specs.Tests.{choose}
 use Rattle.laws.proofs.Tests.{choose-true, choose-false}
 use Rattle.machine.specs.declared.Machine.{Machine}
@@ -93,63 +94,73 @@ taken-front part at l n l' r t =
     let s = string_after (take n l) (drop at part) in
     ap (λ (x : Taken). take x.length l') t.taken ∙ ap (λ (x : List ℕ). take (length s) x) t.now ∙ take-append_seam s (drop (length s) l)
 
-ended_so :
-    (part : List ℕ) (at : ℕ) (l : List ℕ) (n : ℕ) (l' : List ℕ) (r : Taken) (t : Bool) → Takes part at l n l' r → r.ended ≡ t →
-    ends (drop at part) ≡ t
-unfolding taken_of
-ended_so part at l n l' r t h e = sym (ap (λ (x : Taken). x.ended) h.taken) ∙ e
+-- whether and where the string ends, by where to go on
+some-so : (t : Bool) (x k : ℕ) → choose t (Some x) None ≡ Some k → (t ≡ true) × (k ≡ x)
+unfolding choose
+some-so true x k e = (refl, cc)
+some-so false x k e = cc
+
+none-so : (t : Bool) (x : ℕ) → choose t (Some x) None ≡ None → t ≡ false
+unfolding choose
+none-so true x e = cc
+none-so false x e = refl
 
 next-so :
-    (part : List ℕ) (at : ℕ) (l : List ℕ) (n : ℕ) (l' : List ℕ) (r : Taken) → Takes part at l n l' r → r.ended ≡ true →
-    r.next ≡ at + index_of 13 (drop at part) + 1
+    (part : List ℕ) (at : ℕ) (l : List ℕ) (n : ℕ) (l' : List ℕ) (r : Taken) (k : ℕ) → Takes part at l n l' r → r.next ≡ Some k →
+    (ends (drop at part) ≡ true) × (k ≡ at + index_of 13 (drop at part) + 1)
 unfolding taken_of
-next-so part at l n l' r h e =
-    ap (λ (x : Taken). x.next) h.taken ∙ choose-true (ends (drop at part)) _ _ (ended_so part at l n l' r true h e)
+next-so part at l n l' r k h e = some-so (ends (drop at part)) _ k (sym (ap (λ (x : Taken). x.next) h.taken) ∙ e)
+
+goes-so :
+    (part : List ℕ) (at : ℕ) (l : List ℕ) (n : ℕ) (l' : List ℕ) (r : Taken) → Takes part at l n l' r → r.next ≡ None →
+    ends (drop at part) ≡ false
+unfolding taken_of
+goes-so part at l n l' r h e = none-so (ends (drop at part)) _ (sym (ap (λ (x : Taken). x.next) h.taken) ∙ e)
 
 -- after a string that ends in the part: where to go on, and what the console is there
-pub record Turn (part : List ℕ) (at : ℕ) (m : Machine) (l : List ℕ) (n : ℕ) (w l' : List ℕ) (r : Taken) : Type 0 where
-  pub later : at < r.next
-  pub within : r.next ≤ length part
+pub record Turn (part : List ℕ) (at : ℕ) (m : Machine) (l : List ℕ) (n : ℕ) (w l' : List ℕ) (r : Taken) (k : ℕ) : Type 0 where
+  pub later : at < k
+  pub within : k ≤ length part
   pub same :
       console (drop at part) (standing m (take n l) w) ≡
-      console (drop r.next part) (standing (after_string (take r.length l') m) [] (w ++ answer_to (take r.length l') m))
+      console (drop k part) (standing (after_string (take r.length l') m) [] (w ++ answer_to (take r.length l') m))
 
 pub turn-ended :
-    (part : List ℕ) (at : ℕ) (m : Machine) (l : List ℕ) (n : ℕ) (w l' : List ℕ) (r : Taken) → Takes part at l n l' r → r.ended ≡ true →
-    Turn part at m l n w l' r
+    (part : List ℕ) (at : ℕ) (m : Machine) (l : List ℕ) (n : ℕ) (w l' : List ℕ) (r : Taken) (k : ℕ) → Takes part at l n l' r → r.next ≡ Some k →
+    Turn part at m l n w l' r k
 unfolding ends string_after before
-turn-ended part at m l n w l' r h e = record { later = omega (arith, next); within = within; same = same }
+turn-ended part at m l n w l' r k h e = record { later = omega (arith, next); within = within; same = same }
   where
     b : List ℕ
     b = drop at part
 
-    next : r.next ≡ at + index_of 13 b + 1
-    next = next-so part at l n l' r h e
+    next : k ≡ at + index_of 13 b + 1
+    next = (next-so part at l n l' r k h e).1
 
     stops : ends b ≡ true
-    stops = ended_so part at l n l' r true h e
+    stops = (next-so part at l n l' r k h e).0
 
     inside : index_of 13 b < length b
     inside = ltb-true (index_of 13 b) (length b) stops
 
-    within : r.next ≤ length part
+    within : k ≤ length part
     within = omega (arith, next, inside, length-drop at part)
 
     whole : take r.length l' ≡ given (take n l ++ before b)
     whole = taken-front part at l n l' r h ∙ choose-true (ends b) _ _ stops
 
-    place : drop (suc (index_of 13 b)) b ≡ drop r.next part
+    place : drop (suc (index_of 13 b)) b ≡ drop k part
     place =
-        let sum : at + suc (index_of 13 b) ≡ r.next = omega (arith, next) in
-        drop-drop (suc (index_of 13 b)) at part ∙ ap (λ (k : ℕ). drop k part) sum
+        let sum : at + suc (index_of 13 b) ≡ k = omega (arith, next) in
+        drop-drop (suc (index_of 13 b)) at part ∙ ap (λ (j : ℕ). drop j part) sum
 
     same :
         console b (standing m (take n l) w) ≡
-        console (drop r.next part) (standing (after_string (take r.length l') m) [] (w ++ answer_to (take r.length l') m))
+        console (drop k part) (standing (after_string (take r.length l') m) [] (w ++ answer_to (take r.length l') m))
     same =
         console-ended b (standing m (take n l) w) inside
         ∙ ap (λ (x : List ℕ). console x (answering (standing m (take n l ++ before b) w))) place
-        ∙ ap (λ (x : List ℕ). console (drop r.next part) (standing (after_string x m) [] (w ++ answer_to x m))) (sym whole)
+        ∙ ap (λ (x : List ℕ). console (drop k part) (standing (after_string x m) [] (w ++ answer_to x m))) (sym whole)
 
 -- a string that the part does not end: the console there, and the bytes that are kept
 pub record Rest (part : List ℕ) (at : ℕ) (m : Machine) (l : List ℕ) (n : ℕ) (w l' : List ℕ) (r : Taken) : Type 0 where
@@ -157,8 +168,17 @@ pub record Rest (part : List ℕ) (at : ℕ) (m : Machine) (l : List ℕ) (n : �
   pub held : take r.length l' ≡ take 64 (take n l ++ drop at part)
   pub within : r.length ≤ 64
 
+-- where the next string begins, if there is a place for it, and that there is none
+pub next-some : (x : Option ℕ) (d : ℕ) → is_some x ≡ true → x ≡ Some (unwrap_or x d)
+next-some (Some n) d t = refl
+next-some None d t = cc
+
+pub next-none : (x : Option ℕ) → is_some x ≡ false → x ≡ None
+next-none (Some n) t = cc
+next-none None t = refl
+
 pub turn-all :
-    (part : List ℕ) (at : ℕ) (m : Machine) (l : List ℕ) (n : ℕ) (w l' : List ℕ) (r : Taken) → Takes part at l n l' r → r.ended ≡ false →
+    (part : List ℕ) (at : ℕ) (m : Machine) (l : List ℕ) (n : ℕ) (w l' : List ℕ) (r : Taken) → Takes part at l n l' r → r.next ≡ None →
     Rest part at m l n w l' r
 unfolding ends string_after before taken_of
 turn-all part at m l n w l' r h e = record { same = console-all b (standing m (take n l) w) past; held = held; within = within }
@@ -167,7 +187,7 @@ turn-all part at m l n w l' r h e = record { same = console-all b (standing m (t
     b = drop at part
 
     goes : ends b ≡ false
-    goes = ended_so part at l n l' r false h e
+    goes = goes-so part at l n l' r h e
 
     past : length b ≤ index_of 13 b
     past = ltb-false (index_of 13 b) (length b) goes

@@ -2,17 +2,18 @@
 // of 1,000; answers to standard output.
 #![tactic(auto)]
 
-ghost use Rattle.std.specs.Prelude.{◌≡◌, [], length, take};
+ghost use Rattle.std.specs.Prelude.{◌≡◌, ◌≤◌, length, take};
 ghost use Rattle.machine.specs.Record.{fresh};
-ghost use Rattle.console.specs.Console.{console, standing};
-ghost use Rattle.console.specs.Serving.{Exchanges, Reachable, Servable, Serves, served_in};
+ghost use Rattle.console.specs.Console.{console};
+ghost use Rattle.console.specs.Serving.{Exchanges, Reachable, Serves, at_work};
 
+mod server;
 mod serving;
 mod theorems;
 
 use drive::Drive;
 use lines::gathering::front;
-use serving::serve;
+use server::Server;
 use std::io::{Read, Write};
 use units::DriveAddress;
 
@@ -23,12 +24,9 @@ pub struct Handed {
     pub taken: bool,
 }
 
-// The drive, how many bytes there are of the string under way, how many were read and how many
-// handed to standard output, and whether to go on.
+// How many bytes were read and how many handed to standard output, and whether to go on.
 #[derive(Clone, Copy)]
 pub struct Exchange {
-    pub drive: Drive,
-    pub length: usize,
     pub read: usize,
     pub written: usize,
     pub going: bool,
@@ -48,26 +46,14 @@ fn hand_over<W: Write>(output: &mut W, out: &[u8], n: usize) -> Handed
 
 // Answers the strings that a part of the input completes. An output that takes no more closes the
 // exchange.
-fn answer_part<W: Write>(
-    output: &mut W,
-    drive: Drive,
-    string: &mut [u8],
-    n: usize,
-    part: &[u8],
-    out: &mut [u8],
-) -> Exchange
-    requires { Servable string.old n part.now out.old }
-    ensures serves { Serves
-        (console part.now (standing drive.machine (take n string.old) []))
-        string.new out.new (served_in result) }
+fn answer_part<W: Write>(output: &mut W, server: &mut Server, part: &[u8]) -> Exchange
+    requires { length part.now ≤ 1024 }
+    ensures serves { Serves (console part.now (at_work server.old)) server.new result.written }
     ensures read { result.read ≡ length part.now }
 {
-    let served = serve(drive, string, n, part, out);
-    let next = served.drive;
-    let handed = hand_over(output, out, served.written);
+    let written = server.serve(part);
+    let handed = hand_over(output, &server.out, written);
     Exchange {
-        drive: next,
-        length: served.length,
         read: part.len(),
         written: handed.count,
         going: handed.taken,
@@ -78,63 +64,47 @@ fn answer_part<W: Write>(
 fn read_part<R: Read, W: Write>(
     input: &mut R,
     output: &mut W,
-    drive: Drive,
-    string: &mut [u8],
-    n: usize,
+    server: &mut Server,
     part: &mut [u8],
-    out: &mut [u8],
 ) -> Exchange
-    requires servable { Servable string.old n part.old out.old }
-    requires reachable { Reachable drive.machine (take n string.old) }
-    ensures { Exchanges drive.machine (take n string.old)
-        (take result.read part.new) string.new out.new result }
+    requires within { length part.old ≤ 1024 }
+    requires reachable { Reachable server.old }
+    ensures { Exchanges server.old (take result.read part.new) server.new result }
 {
     let count = input.read(part).unwrap_or(0);
     if count == 0 {
         return Exchange {
-            drive,
-            length: n,
             read: 0,
             written: 0,
             going: false,
         };
     }
-    answer_part(output, drive, string, n, front(part, count), out)
+    answer_part(output, server, front(part, count))
 }
 
 // A part has at most 1,024 bytes: 64 bytes of answer to each fit the output's buffer. A proved loop
-// has to end, and nothing says that the input does. So the loop counts its turns down, from a
-// number that no run uses up.
+// has to end, and nothing says that the input does. So the loop counts its turns, up to a number that
+// no run reaches.
 fn run<R: Read, W: Write>(input: &mut R, output: &mut W, drive: Drive)
     requires { drive.machine ≡ fresh (record { 0 = 0 }) }
 {
-    let mut drive = drive;
-    let mut string = [0u8; 65];
+    let mut server = Server {
+        drive,
+        held: 0,
+        string: [0; 65],
+        out: [0; 65536],
+    };
     let mut part = [0u8; 1024];
-    let mut out = [0u8; 65536];
-    let mut length = 0;
-    let mut turns: u64 = 0x4000_0000_0000_0000;
-    while 0 < turns {
-        let exchange = read_part(
-            input,
-            output,
-            drive,
-            &mut string,
-            length,
-            &mut part,
-            &mut out,
-        );
+    for _ in 0..0x4000_0000_0000_0000_u64 {
+        let exchange = read_part(input, output, &mut server, &mut part);
         if !exchange.going {
             return;
         }
-        drive = exchange.drive;
-        length = exchange.length;
-        turns -= 1;
     }
 }
 
+#[tactic(auto, unfolding(drive::specs::Results::made_as, drive::specs::Results::machine_of, machine::specs::Operations::made, laws::specs::Tests::choose))]
 fn main(rt: HostRuntime) {
-    let made = Drive::fresh(DriveAddress(0));
-    let drive = made.drive;
+    let drive = Drive::fresh(DriveAddress(0)).unwrap();
     run(&mut rt.stdin(), &mut rt.stdout(), drive);
 }

@@ -1,78 +1,84 @@
 // The answers to the strings of a part of the input.
-ghost use Rattle.std.specs.Prelude.{◌≡◌, [], ◌+◌, ◌≤◌, length, take};
-ghost use Rattle.console.specs.Console.{console, standing};
-ghost use Rattle.console.specs.Serving.{Answers, Serves, Servable};
+ghost use Rattle.std.specs.Prelude.{◌≡◌, ◌+◌, ◌≤◌, length, take};
+ghost use Rattle.machine.specs.Calls.{apply, next};
+ghost use Rattle.machine.specs.Calls.Call.{SendString, Wait};
+ghost use Rattle.machine.specs.Operations.{buffer_after};
+ghost use Rattle.console.specs.Console.{console};
+ghost use Rattle.console.specs.Serving.{Answers, Serves, at_work};
 
+use crate::server::Server;
 use drive::Drive;
-use lines::gathering::{front, least};
+use drive::results::Told;
+use lines::gathering::front;
 use lines::strings::take_string;
 use units::Milliseconds;
 
-// The drive after a string and its wait, and the place after the answer.
-#[derive(Clone, Copy)]
-pub struct Answered {
-    pub drive: Drive,
-    pub written: usize,
-}
-
-// 01: "each given to one drive of address 00, then a wait of 1,000". The answer is put behind the
-// first bytes of the output.
-fn answer(drive: Drive, string: &[u8], out: &mut [u8], written: usize) -> Answered
-    requires { written + 64 ≤ length out.old }
-    ensures { Answers string.now drive.machine
-        out.old written out.new result }
+// The drive after a string, and how many bytes answer it. Nothing answers a refused one.
+#[tactic(auto, unfolding(drive::specs::Results::told_as, drive::specs::Results::length_of, drive::specs::Results::refused_as, machine::specs::Calls::next))]
+fn told(drive: Drive, string: &[u8], buffer: &mut [u8]) -> Told
+    ensures machine { result.drive.machine ≡
+        next (SendString string.now buffer.old) drive.machine }
+    ensures answer { take result.length buffer.new ≡
+        (apply (SendString string.now buffer.old) drive.machine).answer }
+    ensures buffer { buffer.new ≡
+        buffer_after string.now buffer.old drive.machine }
 {
-    let told = drive.string(string, &mut out[written..written + 64]);
-    let length = least(told.length, 64);
-    let next = told.drive;
-    let waited = next.wait(Milliseconds(1000));
-    let after = waited.drive;
-    Answered {
-        drive: after,
-        written: written + length,
+    match drive.string(string, buffer) {
+        Ok(told) => told,
+        Err(refused) => Told {
+            length: 0,
+            drive: refused.drive,
+        },
     }
 }
 
-// The drive after a part of the input, how many bytes there are of the string under way, and how
-// many bytes of answers.
-#[derive(Clone, Copy)]
-pub struct Served {
-    pub drive: Drive,
-    pub length: usize,
-    pub written: usize,
+// The drive after a wait of 1,000.
+#[tactic(auto, unfolding(drive::specs::Results::waited_as, drive::specs::Results::refused_as, machine::specs::Calls::next))]
+fn waited(drive: Drive) -> Drive
+    ensures { result.machine ≡ next (Wait 1000) drive.machine }
+{
+    match drive.wait(Milliseconds(1000)) {
+        Ok(waited) => waited.drive,
+        Err(refused) => refused.drive,
+    }
 }
 
-// Gives the drive each string that a part of the input completes, and puts the answers behind each
-// other. A part has at most 1,024 bytes, so it completes at most 1,024 strings.
-pub fn serve(drive: Drive, string: &mut [u8], n: usize, part: &[u8], out: &mut [u8]) -> Served
-    requires { Servable string.old n part.now out.old }
-    ensures { Serves
-        (console part.now (standing drive.machine (take n string.old) []))
-        string.new out.new result }
-{
-    let mut drive = drive;
-    let mut length = n;
-    let mut written = 0;
-    let mut at = 0;
-    while at < part.len() {
-        let taken = take_string(part, at, string, length);
-        length = taken.length;
-        if !taken.ended {
-            return Served {
-                drive,
-                length,
-                written,
-            };
+impl Server {
+    // 01: "each given to one drive of address 00, then a wait of 1,000". Gives the drive the first n
+    // bytes of the string's place and puts the answer behind the first bytes of the output; the
+    // place after it. No string is under way then.
+    fn answer(&mut self, n: usize, written: usize) -> usize
+        requires { written + 64 ≤ 65536 }
+        ensures { Answers (take n self.old.string) self.old.drive.machine
+            self.old.out written self.new result }
+    {
+        let string = front(&self.string, n);
+        let out = self.out.as_mut_slice();
+        let told = told(self.drive, string, &mut out[written..written + 64]);
+        self.drive = waited(told.drive);
+        self.held = 0;
+        written + told.length.min(64)
+    }
+
+    // Gives the drive each string that a part of the input completes, and puts the answers behind
+    // each other; how many bytes they have. A part has at most 1,024 bytes, so it completes at most
+    // 1,024 strings.
+    pub fn serve(&mut self, part: &[u8]) -> usize
+        requires { length part.now ≤ 1024 }
+        ensures { Serves (console part.now (at_work self.old)) self.new result }
+    {
+        let mut written = 0;
+        let mut at = 0;
+        while at < part.len() {
+            let taken = take_string(part, at, &mut self.string, self.held);
+            // No `let .. else`: the proof loses the place that its pattern binds over the answer.
+            if taken.next.is_none() {
+                self.held = taken.length;
+                return written;
+            }
+            written = self.answer(taken.length, written);
+            at = taken.next.unwrap_or(part.len());
         }
-        let answered = answer(drive, front(string, length), out, written);
-        drive = answered.drive;
-        written = answered.written;
-        length = 0;
-        at = taken.next;
-    }
-    Served {
-        drive,
-        length,
-        written,
+        written
     }
 }

@@ -11,8 +11,8 @@ use Rattle.laws.specs.Tests.{choose, either}
 use Rattle.laws.proofs.Tests.{choose-true, choose-false, choose-by}
 use Rattle.decimal.specs.Printing.{digits, width, decimal, signed}
 use Rattle.decimal.specs.Parsing.{value_from, number_of, fixed_of, within, negated, signed_of, optional_of}
-use Rattle.decimal.specs.declared.parse.Number.{Number}
-use Rattle.decimal.specs.declared.parse.Number.TheVariants.{Value, Bad}
+use Rattle.std.specs.declared.option.Option.{Option}
+use Rattle.std.specs.declared.option.Option.TheVariants.{Some, None}
 use Rattle.decimal.proofs.Printing.{pow_pos, digit-small, length_digits, width-holds, width_small}
 
 -- a digit q moved from the front of n, which is q * p + r, to the end of a
@@ -37,11 +37,11 @@ value-digits (suc w) n a h =
     ∙ value-digits w (n % p) (a * 10 + n / p) (mod-lt n (pow_pos w))
     ∙ ap (λ (x : ℕ). value_from x []) e
 
-value-fits : (n : ℕ) → n < 2 ^ 32 → value_from n [] ≡ Value n
+value-fits : (n : ℕ) → n < 2 ^ 32 → value_from n [] ≡ Some n
 unfolding value_from
 value-fits n h = choose-true _ _ _ (lt-ltb n (2 ^ 32) h)
 
-value-wide : (n : ℕ) → 2 ^ 32 ≤ n → value_from n [] ≡ Bad
+value-wide : (n : ℕ) → 2 ^ 32 ≤ n → value_from n [] ≡ None
 unfolding value_from
 value-wide n h = choose-false _ _ _ (le-ltb n (2 ^ 32) h)
 
@@ -51,36 +51,36 @@ unfolding number_of choose
 number-test w n low high h =
     simp (length_digits w n, le-leb 1 w low, le-leb w 10 high) (value-digits w n 0 h ∙ ap (λ (x : ℕ). value_from x []) (omega arith))
 
-pub number_digits : (w n : ℕ) → 1 ≤ w → w ≤ 10 → n < 10 ^ w → n < 2 ^ 32 → number_of (digits w n) ≡ Value n
+pub number_digits : (w n : ℕ) → 1 ≤ w → w ≤ 10 → n < 10 ^ w → n < 2 ^ 32 → number_of (digits w n) ≡ Some n
 number_digits w n low high h fits = number-test w n low high h ∙ value-fits n fits
 
-pub number-wide : (n : ℕ) → 2 ^ 32 ≤ n → n < 10 ^ 10 → number_of (digits 10 n) ≡ Bad
+pub number-wide : (n : ℕ) → 2 ^ 32 ≤ n → n < 10 ^ 10 → number_of (digits 10 n) ≡ None
 number-wide n wide h = number-test 10 n (omega arith) (omega arith) h ∙ value-wide n wide
 
-pub fixed-digits : (w n : ℕ) → 1 ≤ w → w ≤ 10 → n < 10 ^ w → n < 2 ^ 32 → fixed_of w (digits w n) ≡ Value n
+pub fixed-digits : (w n : ℕ) → 1 ≤ w → w ≤ 10 → n < 10 ^ w → n < 2 ^ 32 → fixed_of w (digits w n) ≡ Some n
 unfolding fixed_of
 fixed-digits w n low high h fits = choose-true _ _ _ (eq-eqb _ _ (length_digits w n)) ∙ number_digits w n low high h fits
 
-pub number-decimal : (n : ℕ) → n < 2 ^ 32 → number_of (decimal n) ≡ Value n
+pub number-decimal : (n : ℕ) → n < 2 ^ 32 → number_of (decimal n) ≡ Some n
 unfolding decimal
 number-decimal n h = number_digits (width n) n (width_small n).0 (width_small n).1 (width-holds n (omega arith)) h
 
-pub within-value : (low high v : ℕ) → low ≤ v → v ≤ high → within low high (Value v) ≡ Value v
+pub within-value : (low high v : ℕ) → low ≤ v → v ≤ high → within low high (Some v) ≡ Some v
 unfolding within choose
 within-value low high v l h = simp (le-leb low v l, le-leb v high h)
 
 pub signed-signed :
     (below above bits : ℕ) → bits < 2 ^ 32 → (bits < 2 ^ 31 → bits ≤ above) → (2 ^ 31 ≤ bits → 2 ^ 32 - bits ≤ below) →
-    signed_of below above (signed bits) ≡ Value bits
+    signed_of below above (signed bits) ≡ Some bits
 unfolding signed signed_of negated choose
 signed-signed below above bits h up down =
-    choose-by (λ (s : List ℕ). signed_of below above s ≡ Value bits) (ltb bits (2 ^ 31))
+    choose-by (λ (s : List ℕ). signed_of below above s ≡ Some bits) (ltb bits (2 ^ 31))
     (λ t. rw (number-decimal bits h) (within-value 0 above bits (omega arith) (up (ltb-true bits (2 ^ 31) t))))
     (λ t. minus (ltb-false bits (2 ^ 31) t))
   where
-    minus : 2 ^ 31 ≤ bits → signed_of below above (45 ∷ decimal (2 ^ 32 - bits)) ≡ Value bits
+    minus : 2 ^ 31 ≤ bits → signed_of below above (45 ∷ decimal (2 ^ 32 - bits)) ≡ Some bits
     minus l =
-        rw (number-decimal (2 ^ 32 - bits) (omega arith), within-value 0 below (2 ^ 32 - bits) (omega arith) (down l)) (ap Value (omega arith))
+        rw (number-decimal (2 ^ 32 - bits) (omega arith), within-value 0 below (2 ^ 32 - bits) (omega arith) (down l)) (ap Some (omega arith))
 
 -- a printed sign is taken for one
 optional-sign : (below above bits : ℕ) → optional_of below above (signed bits) ≡ signed_of below above (signed bits)
@@ -90,7 +90,7 @@ optional-sign below above bits =
 
 pub optional-signed :
     (below above bits : ℕ) → bits < 2 ^ 32 → (bits < 2 ^ 31 → bits ≤ above) → (2 ^ 31 ≤ bits → 2 ^ 32 - bits ≤ below) →
-    optional_of below above (signed bits) ≡ Value bits
+    optional_of below above (signed bits) ≡ Some bits
 optional-signed below above bits h up down = optional-sign below above bits ∙ signed-signed below above bits h up down
 
 pub digits-injective : (w m n : ℕ) → m < 10 ^ w → n < 10 ^ w → digits w m ≡ digits w n → m ≡ n
@@ -104,9 +104,9 @@ digits-injective (suc w) m n hm hn e =
     sym (div-add-mod' m (10 ^ w)) ∙ rw (q, r) (div-add-mod' n (10 ^ w))
 
 -- texts that parse to different numbers differ
-parse-injective : (parse : List ℕ → Number) {s t : List ℕ} {m n : ℕ} → parse s ≡ Value m → parse t ≡ Value n → s ≡ t → m ≡ n
+parse-injective : (parse : List ℕ → Option ℕ) {s t : List ℕ} {m n : ℕ} → parse s ≡ Some m → parse t ≡ Some n → s ≡ t → m ≡ n
 parse-injective parse {s} {t} {m} {n} a b e =
-    let p : Value m ≡ Value n = sym a ∙ ap parse e ∙ b in
+    let p : Some m ≡ Some n = sym a ∙ ap parse e ∙ b in
     cc
 
 pub decimal_injective : (m n : ℕ) → m < 2 ^ 32 → n < 2 ^ 32 → decimal m ≡ decimal n → m ≡ n
@@ -115,5 +115,5 @@ decimal_injective m n hm hn e = parse-injective number_of (number-decimal m hm) 
 pub signed-injective : (m n : ℕ) → m < 2 ^ 32 → n < 2 ^ 32 → signed m ≡ signed n → m ≡ n
 signed-injective m n hm hn e = parse-injective (signed_of (2 ^ 31) (2 ^ 31)) (back m hm) (back n hn) e
   where
-    back : (b : ℕ) → b < 2 ^ 32 → signed_of (2 ^ 31) (2 ^ 31) (signed b) ≡ Value b
+    back : (b : ℕ) → b < 2 ^ 32 → signed_of (2 ^ 31) (2 ^ 31) (signed b) ≡ Some b
     back b h = signed-signed (2 ^ 31) (2 ^ 31) b h (λ l. omega arith) (λ l. omega arith)

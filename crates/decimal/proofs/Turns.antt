@@ -1,20 +1,23 @@
--- One turn of each loop, and each case of a sign.
+-- One turn of each loop, and the value that is read as 32 bits.
 -- Assumes nothing.
 use Prim.Native.Nat.{ℕ, zero, suc, ◌+◌, ◌-◌, ◌*◌, ◌/◌, ◌%◌, ◌^◌, ◌≤◌, ◌<◌}
 use native.Mathlib.Nat.{pow-suc, pow-le-pow_right, le_trans, div-one, add-zero, zero-add}
 use native.Mathlib.Numerals.{add-one}
 use native.Mathlib.Omega.{arith}
-use mathlib.Core.Path.{◌≡◌, refl, ap, ◌∙◌}
+use mathlib.Core.Path.{◌≡◌, refl, ap, sym, ◌∙◌}
 use mathlib.Core.Logic.{◌⊎◌, inl, inr}
-use mathlib.Core.List.{List, [], ◌∷◌}
-use lib.ListN.{length, get_or, take, drop, set, length-drop}
-use lib.Seq.{sets, drop-cons, drop-length, take_all}
+use mathlib.Core.List.{List}
+use lib.ListN.{length, get_or, drop, set}
+use lib.Seq.{sets, drop-cons, drop-length}
 use lib.Dec.{ltb, lit<}
-use borrow.Author.Tests.{lt-ltb, le-ltb, le-leb, lt-leb, eq-eqb, ne_eqb}
-use Rattle.laws.specs.Tests.{choose, either}
+use borrow.Author.Tests.{lt-ltb, le-ltb, le-leb, lt-leb}
+use Rattle.laws.specs.Tests.{choose}
+use Rattle.laws.proofs.Tests.{choose-true, choose-false}
 use Rattle.decimal.specs.Printing.{digits, width_from}
-use Rattle.decimal.specs.Parsing.{value_from, number_of, within, negated, signed_of, optional_of}
-use Rattle.decimal.specs.declared.parse.Number.TheVariants.{Value, Bad}
+use Rattle.decimal.specs.Parsing.{value_from}
+use Rattle.std.specs.Prelude.{Result, Ok, Err, OkIff}
+use Rattle.std.specs.Result.{result_ok}
+use Rattle.std.specs.declared.option.Option.TheVariants.{Some, None}
 use Rattle.decimal.proofs.Printing.{pow_pos}
 
 -- printing digits: what is left, at the width before and after a digit
@@ -80,13 +83,11 @@ value-below a i d h k = rw (add-one, pow-suc) (omega arith)
 pub value-small : (a i : ℕ) → a < 10 ^ i → i ≤ 10 → a < 10 ^ 10
 value-small a i h k = le_trans h (pow-le-pow_right (lit< tt) k)
 
-pub value_low : (a : ℕ) (s : List ℕ) (i : ℕ) → i < length s → get_or s i 0 < 48 → value_from a (drop i s) ≡ Bad
+-- a byte that is no digit
+pub value-bad : (a : ℕ) (s : List ℕ) (i : ℕ) → i < length s → (get_or s i 0 < 48) ⊎ (57 < get_or s i 0) → value_from a (drop i s) ≡ None
 unfolding value_from choose
-value_low a s i h k = rw (drop-cons s i 0 h) (simp (lt-leb 48 (get_or s i 0) k))
-
-pub value-high : (a : ℕ) (s : List ℕ) (i : ℕ) → i < length s → 48 ≤ get_or s i 0 → 57 < get_or s i 0 → value_from a (drop i s) ≡ Bad
-unfolding value_from choose
-value-high a s i h l k = rw (drop-cons s i 0 h) (simp (le-leb 48 (get_or s i 0) l, lt-leb (get_or s i 0) 57 k))
+value-bad a s i h (inl k) = rw (drop-cons s i 0 h) (simp (lt-leb 48 (get_or s i 0) k))
+value-bad a s i h (inr k) = rw (drop-cons s i 0 h) (simp (le-leb 48 (get_or s i 0) (omega arith), lt-leb (get_or s i 0) 57 k))
 
 pub value-next :
     (a : ℕ) (s : List ℕ) (i : ℕ) → i < length s → 48 ≤ get_or s i 0 → get_or s i 0 ≤ 57 →
@@ -94,54 +95,11 @@ pub value-next :
 unfolding value_from choose
 value-next a s i h l k = rw (add-one i, drop-cons s i 0 h) (simp (le-leb 48 (get_or s i 0) l, le-leb (get_or s i 0) 57 k))
 
-pub value-end : (a : ℕ) (s : List ℕ) (i : ℕ) → i ≡ length s → value_from a (drop i s) ≡ choose (ltb a (2 ^ 32)) (Value a) Bad
+pub value-end : (a : ℕ) (s : List ℕ) (i : ℕ) → i ≡ length s → value_from a (drop i s) ≡ choose (ltb a (2 ^ 32)) (Some a) None
 unfolding value_from
 value-end a s i e = rw (e, drop-length s)
 
--- a sign that must stand
-pub signed_of-empty : (below above : ℕ) (s : List ℕ) → length s ≡ 0 → signed_of below above s ≡ Bad
-unfolding signed_of
-signed_of-empty below above [] e = refl
-signed_of-empty below above (b ∷ s) e = absurd (omega arith)
-
-pub signed_of-plus : (below above : ℕ) (s : List ℕ) → 0 < length s → get_or s 0 0 ≡ 43 → signed_of below above s ≡ within 0 above (number_of (drop 1 s))
-unfolding signed_of choose
-signed_of-plus below above [] h e = absurd (omega arith)
-signed_of-plus below above (b ∷ s) h e = simp (eq-eqb b 43 e)
-
-pub signed_of-minus :
-    (below above : ℕ) (s : List ℕ) → 0 < length s → get_or s 0 0 ≡ 45 →
-    signed_of below above s ≡ negated (within 0 below (number_of (drop 1 s)))
-unfolding signed_of choose
-signed_of-minus below above [] h e = absurd (omega arith)
-signed_of-minus below above (b ∷ s) h e = simp (ne_eqb b 43 (λ w. omega arith), eq-eqb b 45 e)
-
-pub signed_of-other : (below above : ℕ) (s : List ℕ) → (get_or s 0 0 ≡ 43 → ⊥) → (get_or s 0 0 ≡ 45 → ⊥) → signed_of below above s ≡ Bad
-unfolding signed_of choose
-signed_of-other below above [] p m = refl
-signed_of-other below above (b ∷ s) p m = simp (ne_eqb b 43 p, ne_eqb b 45 m)
-
--- a sign that may be left out
-pub optional_of-empty : (below above : ℕ) (s : List ℕ) → length s ≡ 0 → optional_of below above s ≡ Bad
-unfolding optional_of
-optional_of-empty below above [] e = refl
-optional_of-empty below above (b ∷ s) e = absurd (omega arith)
-
-pub optional_of-sign :
-    (below above : ℕ) (s : List ℕ) → 0 < length s → (get_or s 0 0 ≡ 43) ⊎ (get_or s 0 0 ≡ 45) →
-    optional_of below above s ≡ signed_of below above s
-unfolding optional_of choose either
-optional_of-sign below above [] h e = absurd (omega arith)
-optional_of-sign below above (b ∷ s) h (inl e) = simp (eq-eqb b 43 e)
-optional_of-sign below above (b ∷ s) h (inr e) = simp (ne_eqb b 43 (λ w. omega arith), eq-eqb b 45 e)
-
-pub optional_of-other :
-    (below above : ℕ) (s : List ℕ) → 0 < length s → (get_or s 0 0 ≡ 43 → ⊥) → (get_or s 0 0 ≡ 45 → ⊥) →
-    optional_of below above s ≡ within 0 above (number_of s)
-unfolding optional_of choose either
-optional_of-other below above [] h p m = absurd (omega arith)
-optional_of-other below above (b ∷ s) h p m = simp (ne_eqb b 43 p, ne_eqb b 45 m)
-
--- the part from 1 to the end
-pub tail_all : (s : List ℕ) → take (length s - 1) (drop 1 s) ≡ drop 1 s
-tail_all s = take_all (length s - 1) (drop 1 s) (simp length-drop (omega arith))
+-- a value as 32 bits, where it fits
+pub value_fits : {E : Type 0} (v : ℕ) (r : Result ℕ E) → OkIff r (v < 2 ^ 32) v → result_ok r ≡ choose (ltb v (2 ^ 32)) (Some v) None
+value_fits v (Ok x) h = rw h.1 (sym (choose-true _ _ _ (lt-ltb v (2 ^ 32) h.0)))
+value_fits v (Err e) h = sym (choose-false _ _ _ (le-ltb v (2 ^ 32) (omega arith)))

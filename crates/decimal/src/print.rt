@@ -4,7 +4,7 @@ ghost use Rattle.laws.specs.Writing.{Put};
 ghost use Rattle.decimal.specs.Printing.{Split, taken_away, digits, width_from, width};
 ghost use Rattle.decimal.specs.Printing.{decimal, signed};
 
-const POWERS: [u32; 10] = [
+static POWERS: [u32; 10] = [
     1, 10, 100, 1000, 10000, 100000, 1000000, 10000000, 100000000, 1000000000,
 ];
 
@@ -16,6 +16,7 @@ pub struct Digit {
 }
 
 // So many of a power, m together, taken away and counted, where they are within what is left.
+#[tactic(auto, unfolding(crate::specs::Printing::taken_away, laws::specs::Tests::choose))]
 fn take_away(d: Digit, m: u32, count: u8) -> Digit
     requires { d.byte + count < 256 }
     ensures { result ≡ taken_away d m count }
@@ -52,19 +53,16 @@ pub fn put_digits(buf: &mut [u8], at: usize, n: u32, w: usize) -> usize
     requires { (w ≤ 10) × ((n < 10 ^ w) × (at + w ≤ length buf.old)) }
     ensures { Put buf.old buf.new (digits w n) at result }
 {
-    let powers = POWERS;
+    if w == 0 {
+        return at;
+    }
     let mut i = at;
     let mut left = n;
-    let mut k = w;
-    while 1 < k {
-        k -= 1;
-        let d = digit_of(left, powers[k]);
+    for k in (1..w).rev() {
+        let d = digit_of(left, POWERS[k]);
         buf[i] = d.byte;
         left = d.left;
         i += 1;
-    }
-    if k == 0 {
-        return i;
     }
     buf[i] = b'0' + left as u8;
     i + 1
@@ -75,17 +73,16 @@ fn width_among(n: u32, low: usize) -> usize
     requires { low ≤ 6 }
     ensures { result ≡ width_from 4 low n }
 {
-    let powers = POWERS;
-    if n < powers[low + 1] {
-        if n < powers[low] {
+    if n < POWERS[low + 1] {
+        if n < POWERS[low] {
             return low;
         }
         return low + 1;
     }
-    if n < powers[low + 2] {
+    if n < POWERS[low + 2] {
         return low + 2;
     }
-    if n < powers[low + 3] {
+    if n < POWERS[low + 3] {
         return low + 3;
     }
     low + 4

@@ -1,43 +1,65 @@
 -- What a call comes to on a sound drive and on an unsound one.
 -- Assumes nothing.
 use Prim.Native.Nat.{ℕ}
-use mathlib.Core.Path.{◌≡◌, refl, sym, ap, subst, ◌∙◌}
+use mathlib.Core.Path.{◌≡◌, refl, sym, ap, ◌∙◌}
 use mathlib.Core.Bool.{Bool, true, false}
-use mathlib.Core.Logic.{◌≢◌}
 use mathlib.Core.List.{List, [], ◌∷◌, ◌++◌}
 use lib.ListN.{length, take, drop}
-use lib.Dec.{eqb}
-use borrow.Author.Tests.{eqb-true, eqb-false}
+use Rattle.std.specs.Prelude.{Result, Ok, Err}
 use Rattle.laws.proofs.Tests.{choose-true, choose-false, choose-by}
 use Rattle.machine.specs.Soundness.{sound}
 use Rattle.machine.specs.Record.{with_state}
 use Rattle.machine.specs.Milliseconds.{millisecond}
-use Rattle.machine.specs.Calls.{Call, Outcome, refused, done, act, apply}
+use Rattle.machine.specs.Calls.{Call, Outcome, done, act, apply}
 use Rattle.machine.specs.Calls.Call.{SendString, Millisecond}
-use Rattle.machine.specs.Calls.Ending.{NoWait}
 use Rattle.machine.specs.Operations.{filled, buffer_after}
 use Rattle.machine.specs.declared.State.{State}
 use Rattle.machine.specs.declared.Machine.{Machine}
-use Rattle.machine.proofs.Invariant.{refused-whole}
-use Rattle.operations.specs.Results.{number_of, acted_on, Answering}
+use Rattle.operations.specs.Results.{number_of, told_length, heard_as, Answering}
 use Rattle.operations.specs.declared.results.Refusal.{Refusal}
 use Rattle.operations.specs.declared.results.Refusal.TheVariants.{Unsound}
-use Rattle.operations.specs.declared.results.Acted.{Acted}
-use Rattle.operations.specs.declared.results.Answered.{Answered}
+use Rattle.drive.specs.declared.Drive.{Drive}
+use Rattle.drive.specs.declared.results.Refused.{Refused}
 use Rattle.drive.specs.declared.results.Told.{Told}
-use Rattle.drive.specs.Results.{handed_back, told_as}
+use Rattle.drive.specs.Results.{checked, refused_with, refused_as, told_as, length_of}
 
--- "2, drive unsound": by the check that failed
+-- by the check that passed
+is-sound : (d : Drive) {r : Result (Unit {0}) Refused} {u : Unit {0}} → r ≡ checked d → r ≡ Ok u → sound d.machine ≡ true
+unfolding checked
+is-sound d {r} {u} e q =
+    choose-by (λ (x : Result (Unit {0}) Refused). x ≡ Ok u → sound d.machine ≡ true) (sound d.machine) (λ t p. t) (λ f p. cc) (sym e ∙ q)
+
+-- the refusal that a check ends with
+error-of : Refused → Result (Unit {0}) Refused → Refused
+error-of x (Ok u) = x
+error-of x (Err r) = r
+
+-- by the check that failed
+is-unsound :
+    (d : Drive) {r : Result (Unit {0}) Refused} {x : Refused} → r ≡ checked d → r ≡ Err x →
+    (sound d.machine ≡ false) × (refused_with Unsound d ≡ x)
+unfolding checked refused_with error-of
+is-unsound d {r} {x} e q =
+    choose-by (λ (y : Result (Unit {0}) Refused). y ≡ Err x → (sound d.machine ≡ false) × (refused_with Unsound d ≡ x)) (sound d.machine)
+    (λ t p. cc) (λ f p. (f, ap (error-of x) p)) (sym e ∙ q)
+
+-- "2, drive unsound"
 pub unsound-applied :
-    (c : Call) (m : Machine) {b : Bool} → b ≡ sound m → b ≡ false → apply c m ≡ refused 2 m
-unfolding apply
-unsound-applied c m e f = choose-false _ _ _ (sym e ∙ f)
+    (c : Call) (d : Drive) {r : Result (Unit {0}) Refused} {x : Refused} → r ≡ checked d → r ≡ Err x → refused_as x ≡ apply c d.machine
+unfolding apply number_of refused_with refused_as
+unsound-applied c d e q =
+    let u = is-unsound d e q in
+    ap refused_as (sym u.1) ∙ sym (choose-false _ _ _ u.0)
 
--- by the check that passed, and what the operation gives on a sound drive
+-- what the operation gives on a sound drive
 pub sound-applied :
-    (c : Call) (m : Machine) {b : Bool} → b ≡ sound m → b ≡ true → apply c m ≡ act c m
+    (c : Call) (d : Drive) {r : Result (Unit {0}) Refused} {u : Unit {0}} → r ≡ checked d → r ≡ Ok u → act c d.machine ≡ apply c d.machine
 unfolding apply
-sound-applied c m e t = choose-true _ _ _ (sym e ∙ t)
+sound-applied c d e q = sym (choose-true _ _ _ (is-sound d e q))
+
+-- and that the drive is sound, which the operations ask
+pub check-passed : (d : Drive) {r : Result (Unit {0}) Refused} {u : Unit {0}} → r ≡ checked d → r ≡ Ok u → sound d.machine ≡ true
+check-passed d e q = is-sound d e q
 
 -- the answer stands at the front of the buffer
 take-front : (a b : List ℕ) → take (length a) (a ++ b) ≡ a
@@ -48,48 +70,34 @@ front-is : (a buffer later : List ℕ) (n : ℕ) → n ≡ length a → later �
 unfolding filled
 front-is a buffer later n e q = rw (e, q) (take-front a (drop (length a) buffer))
 
-abbrev told_with : Refusal → ℕ → Machine → Told
-told_with x n m = record { refusal = x; length = n; drive = record { machine = m } }
-
-abbrev outcome_with : Answered → List ℕ → Outcome
-outcome_with r a = record { refusal = number_of r.refusal; answer = a; ending = NoWait; machine = r.machine }
-
 -- what `Drive::string` promises of what it hands back and of the buffer
-abbrev Telling : List ℕ → List ℕ → List ℕ → Machine → Told → Type 0
-Telling b buffer later m r =
-    (told_as r later ≡ apply (SendString b buffer) m) ×
-    ((r.length ≡ length (apply (SendString b buffer) m).answer) × (later ≡ buffer_after b buffer m))
+abbrev pub Telling : List ℕ → List ℕ → List ℕ → Drive → Result Told Refused → Type 0
+Telling b buffer later d r =
+    (told_as r later ≡ apply (SendString b buffer) d.machine) ×
+    ((length_of r ≡ length (apply (SendString b buffer) d.machine).answer) × (later ≡ buffer_after b buffer d.machine))
 
-pub string-unsound :
-    (b buffer : List ℕ) (m : Machine) → apply (SendString b buffer) m ≡ refused 2 m →
-    Telling b buffer buffer m (told_with Unsound 0 m)
-unfolding number_of told_as buffer_after filled
-string-unsound b buffer m e = (sym e, (ap (λ (o : Outcome). length o.answer) (sym e), rw e))
+pub string-refused :
+    (b buffer : List ℕ) (d : Drive) (x : Refused) → refused_as x ≡ apply (SendString b buffer) d.machine → Telling b buffer buffer d (Err x)
+unfolding told_as length_of refused_as buffer_after filled
+string-refused b buffer d x e = (e, (ap (λ (o : Outcome). length o.answer) e, ap (λ (o : Outcome). filled o.answer buffer) e))
+
+-- the drive and the length, or the refusal and the drive, after a string
+abbrev pub told_with : Machine → Result ℕ Refusal → Result Told Refused
+told_with m (Ok n) = Ok (record { length = n; drive = record { machine = m } })
+told_with m (Err r) = Err (refused_with r (record { machine = m }))
 
 pub string-applied :
-    (b buffer later : List ℕ) (m : Machine) (r : Answered) → apply (SendString b buffer) m ≡ act (SendString b buffer) m →
-    Answering r buffer later (act (SendString b buffer) m) → Telling b buffer later m (told_with r.refusal r.length r.machine)
-unfolding told_as buffer_after
-string-applied b buffer later m r e a =
-    let front = front-is _ buffer later r.length a.count a.bytes in
-    let whole : told_as (told_with r.refusal r.length r.machine) later ≡ outcome_with r (act (SendString b buffer) m).answer =
-    ap (outcome_with r) front in
-    let count = a.count ∙ ap (λ (o : Outcome). length o.answer) (sym e) in
-    (whole ∙ a.outcome ∙ sym e, (count, a.bytes ∙ ap (λ (o : Outcome). filled o.answer buffer) (sym e)))
-
--- what a refused call hands back: its number, and the drive as it came
-abbrev Same : Machine → Outcome → Type 0
-Same m o = o.refusal ≢ 0 → o ≡ refused o.refusal m
-
--- an event that is refused, and one that is taken
-pub handed-back :
-    (c : Call) (m : Machine) (a : Acted) → acted_on m a ≡ act c m → apply c m ≡ act c m → handed_back m a ≡ apply c m
-unfolding acted_on handed_back
-handed-back c m a q e =
-    let same = q ∙ sym e in
-    choose-by (λ (o : Outcome). o ≡ apply c m) (eqb (number_of a.refusal) 0)
-    (λ t. ap (λ (n : ℕ). refused n (with_state m a.state)) (sym (eqb-true _ _ t)) ∙ same)
-    (λ t. sym (subst (Same m) (sym same) (refused-whole c m) (eqb-false _ _ t)) ∙ same)
+    (b buffer later : List ℕ) (d : Drive) (m : Machine) (r : Result ℕ Refusal) → act (SendString b buffer) d.machine ≡ apply (SendString b buffer) d.machine →
+    Answering r m buffer later (act (SendString b buffer) d.machine) → Telling b buffer later d (told_with m r)
+unfolding told_as length_of refused_as refused_with heard_as told_length buffer_after
+string-applied b buffer later d m (Ok n) e a =
+    let o = act (SendString b buffer) d.machine in
+    let front = front-is _ buffer later n a.count a.bytes in (
+      ap (heard_as (Ok n) m) front ∙ a.outcome ∙ e,
+      (a.count ∙ ap (λ (o : Outcome). length o.answer) e, a.bytes ∙ ap (λ (o : Outcome). filled o.answer buffer) e),
+    )
+string-applied b buffer later d m (Err r) e a =
+    (a.outcome ∙ e, (a.count ∙ ap (λ (o : Outcome). length o.answer) e, a.bytes ∙ ap (λ (o : Outcome). filled o.answer buffer) e))
 
 -- a millisecond is never refused
 pub time-passed :

@@ -1,57 +1,66 @@
 -- What an operation of the program hands back, as 01's numbers and values: the outcome of a call that demand 3's lists are made of.
 -- Assumes nothing.
-use Rattle.std.specs.Prelude.{ℕ, List, [], take, eqb}
+use Rattle.std.specs.Prelude.{ℕ, List, [], take, Result, Ok, Err}
 use Rattle.laws.specs.Tests.{choose}
-use Rattle.machine.specs.Record.{with_state}
+use Rattle.machine.specs.Soundness.{sound}
 use Rattle.machine.specs.Calls.{Shown, Outcome, done, refused}
 use Rattle.machine.specs.Calls.Ending.{NoWait as no_wait}
 use Rattle.machine.specs.Operations.{Made, Ordered}
 use Rattle.machine.specs.Operations.Made.{NotMade as not_made, Drive as drive}
 use Rattle.machine.specs.Operations.Ordered.{NoOrder as no_order, Order as an_order}
 use Rattle.machine.specs.declared.Machine.{Machine}
+use Rattle.machine.specs.declared.answers.BoardOrder.{BoardOrder}
 use Rattle.operations.specs.Results.{number_of, ending_as}
-use Rattle.operations.specs.declared.results.Acted.{Acted}
-use Rattle.drive.specs.declared.results.Done.{Done}
+use Rattle.operations.specs.declared.results.Refusal.{Refusal}
+use Rattle.operations.specs.declared.results.Refusal.TheVariants.{Unsound}
+use Rattle.drive.specs.declared.Drive.{Drive}
+use Rattle.drive.specs.declared.results.Refused.{Refused}
 use Rattle.drive.specs.declared.results.Told.{Told}
 use Rattle.drive.specs.declared.results.Waited.{Waited}
-use Rattle.drive.specs.declared.results.Ordered.{Ordered as OrderedBy}
-use Rattle.drive.specs.declared.results.Ordered.TheVariants.{Refused, Order}
+
+-- 01: "Every refusal hands back its number, the drive as it came"
+unfoldable pub refused_with : Refusal → Drive → Refused
+refused_with r d = record { refusal = r; drive = d }
+
+-- 01: "2, drive unsound", before all else
+unfoldable pub checked : Drive → Result (Unit {0}) Refused
+checked d = choose (sound d.machine) (Ok tt) (Err (refused_with Unsound d))
+
+-- what a refused call comes to
+unfoldable pub refused_as : Refused → Outcome
+refused_as r = refused (number_of r.refusal) r.drive.machine
 
 -- after an event
-unfoldable pub done_as : Done → Outcome
-done_as r =
-    record { refusal = number_of r.refusal; answer = []; ending = no_wait; machine = r.drive.machine }
-
--- 01: "Every refusal hands back its number, the drive as it came": what an event comes to, with the whole drive
-unfoldable pub handed_back : Machine → Acted → Outcome
-handed_back m a =
-    choose (eqb (number_of a.refusal) 0) (done (with_state m a.state)) (refused (number_of a.refusal) m)
+unfoldable pub done_as : Result Drive Refused → Outcome
+done_as (Ok d) = done d.machine
+done_as (Err r) = refused_as r
 
 -- after a string, with the buffer as it is then: the answer stands at its front
-unfoldable pub told_as : Told → List ℕ → Outcome
-told_as r buffer =
-    record {
-      refusal = number_of r.refusal;
-      answer = take r.length buffer;
-      ending = no_wait;
-      machine = r.drive.machine;
-    }
+unfoldable pub told_as : Result Told Refused → List ℕ → Outcome
+told_as (Ok t) buffer = record { refusal = 0; answer = take t.length buffer; ending = no_wait; machine = t.drive.machine }
+told_as (Err r) buffer = refused_as r
+
+-- how many bytes of the buffer answer a string, none where it is refused
+unfoldable pub length_of : Result Told Refused → ℕ
+length_of (Ok t) = t.length
+length_of (Err r) = 0
 
 -- after a wait, with what was shown meanwhile
-unfoldable pub waited_as : Waited → List Shown → Outcome
-waited_as r shown =
-    record {
-      refusal = number_of r.refusal;
-      answer = [];
-      ending = ending_as r.ending shown;
-      machine = r.drive.machine;
-    }
+unfoldable pub waited_as : Result Waited Refused → List Shown → Outcome
+waited_as (Ok w) shown = record { refusal = 0; answer = []; ending = ending_as w.ending shown; machine = w.drive.machine }
+waited_as (Err r) shown = refused_as r
 
 -- 01: "Fresh: 1, address above 47."
-unfoldable pub made_as : Done → Made
-made_as r = choose (eqb (number_of r.refusal) 0) (drive r.drive.machine) (not_made (number_of r.refusal))
+unfoldable pub made_as : Result Drive Refused → Made
+made_as (Ok d) = drive d.machine
+made_as (Err r) = not_made (number_of r.refusal)
+
+-- the record of the drive, also of the one beside a refusal
+unfoldable pub machine_of : Result Drive Refused → Machine
+machine_of (Ok d) = d.machine
+machine_of (Err r) = r.drive.machine
 
 -- 01: "Millisecond, board order: 2."
-unfoldable pub ordered_as : OrderedBy → Ordered
-ordered_as (Refused r) = no_order (number_of r)
-ordered_as (Order o) = an_order o
+unfoldable pub ordered_as : Result BoardOrder Refusal → Ordered
+ordered_as (Ok o) = an_order o
+ordered_as (Err r) = no_order (number_of r)

@@ -6,54 +6,62 @@ ghost use Rattle.machine.specs.Operations.{ordered};
 ghost use Rattle.drive.specs.Results.{done_as, ordered_as};
 
 use crate::Drive;
-use crate::results::{Done, Ordered};
-use crate::wrapping::{done, refused};
+use crate::results::{Refusal, Refused};
+use machine::answers::BoardOrder;
 use operations::board;
-use operations::results::Refusal;
 use soundness::sound;
 
 impl Drive {
     // From the board: a step.
-    pub fn step(self) -> Done
+    pub fn step(mut self) -> Result<Drive, Refused>
         ensures { done_as result ≡ apply Step self.machine }
     {
-        let machine = self.machine;
-        if !sound(machine) {
-            return refused(Refusal::Unsound, machine);
+        self.check()?;
+        match board::step(&self.machine) {
+            Ok(state) => {
+                self.machine.state = state;
+                Ok(self)
+            }
+            Err(refusal) => Err(self.refused(refusal)),
         }
-        done(machine, board::step(machine))
     }
 
     // From the board: the run has reached its speed.
-    pub fn at_speed(self) -> Done
+    pub fn at_speed(mut self) -> Result<Drive, Refused>
         ensures { done_as result ≡ apply AtSpeed self.machine }
     {
-        let machine = self.machine;
-        if !sound(machine) {
-            return refused(Refusal::Unsound, machine);
+        self.check()?;
+        match board::at_speed(&self.machine) {
+            Ok(state) => {
+                self.machine.state = state;
+                Ok(self)
+            }
+            Err(refusal) => Err(self.refused(refusal)),
         }
-        done(machine, board::at_speed(machine))
     }
 
     // From the board: the motor stands after slowing.
-    pub fn halted(self) -> Done
+    pub fn halted(mut self) -> Result<Drive, Refused>
         ensures { done_as result ≡ apply Halted self.machine }
     {
-        let machine = self.machine;
-        if !sound(machine) {
-            return refused(Refusal::Unsound, machine);
+        self.check()?;
+        match board::halted(&self.machine) {
+            Ok(state) => {
+                self.machine.state = state;
+                Ok(self)
+            }
+            Err(refusal) => Err(self.refused(refusal)),
         }
-        done(machine, board::halted(machine))
     }
 
     // The order to the board.
-    pub fn order(self) -> Ordered
+    #[tactic(auto, unfolding(crate::specs::Results::ordered_as, machine::specs::Operations::ordered, operations::specs::Results::number_of, laws::specs::Tests::choose))]
+    pub fn order(self) -> Result<BoardOrder, Refusal>
         ensures { ordered_as result ≡ ordered self.machine }
     {
-        let machine = self.machine;
-        if !sound(machine) {
-            return Ordered::Refused(Refusal::Unsound);
+        if !sound(self.machine) {
+            return Err(Refusal::Unsound);
         }
-        Ordered::Order(board::order(machine))
+        Ok(board::order(&self.machine))
     }
 }

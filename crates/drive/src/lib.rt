@@ -1,6 +1,8 @@
 // The drive of 01: one value that holds all of it, and a method for each operation. Each method
 // takes the drive by value and hands back the next one, or a refusal and the drive as it came. Each
-// contract equates what is handed back with the call of 01 that demand 3's lists are made of.
+// contract equates what is handed back with the call of 01 that demand 3's lists are made of. Each
+// method matches what its operation comes to by itself: in a function that they share, a drive that
+// nothing lends is copied field by field, which takes ten times the check.
 #![tactic(auto)]
 
 use machine::Machine;

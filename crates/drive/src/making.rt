@@ -2,13 +2,12 @@
 ghost use Rattle.std.specs.Prelude.{◌≡◌};
 ghost use Rattle.machine.specs.Record.{fresh_presets, fresh_state, fresh as fresh_of};
 ghost use Rattle.machine.specs.Operations.{made};
-ghost use Rattle.drive.specs.Results.{made_as};
+ghost use Rattle.drive.specs.Results.{made_as, machine_of};
 
 use crate::Drive;
-use crate::results::Done;
+use crate::results::{Refusal, Refused};
 use instruction::{Cell, Instruction};
-use machine::{Cam, Fault, Machine, Presets, Remaining, Resolution, State, Suspended};
-use operations::results::Refusal;
+use machine::{Cam, Fault, Machine, Presets, Resolution, State, Suspended};
 use progress::at_rest;
 use units::{CellAddress, DriveAddress, Position};
 
@@ -27,30 +26,15 @@ fn fresh_presets(address: DriveAddress) -> Presets
 fn fresh_state(address: DriveAddress) -> State
     ensures { result ≡ fresh_state address }
 {
-    let presets = fresh_presets(address);
-    let cam = Cam {
-        set: false,
-        position: Position(0),
-    };
-    let fault = Fault {
-        code: 0,
-        cell: CellAddress(0),
-    };
-    let suspended = Suspended {
-        cell: CellAddress(0),
-        remaining: Remaining::Nothing,
-        loops: 0,
-    };
-    let running = at_rest();
     State {
-        presets,
+        presets: fresh_presets(address),
         position: Position(0),
         inputs: [false; 11],
         outputs: [false; 14],
-        cam,
-        fault,
-        suspended,
-        running,
+        cam: Cam::UNSET,
+        fault: Fault::NONE,
+        suspended: Suspended::EMPTY,
+        running: at_rest(),
     }
 }
 
@@ -71,21 +55,20 @@ fn fresh_machine(address: DriveAddress) -> Machine
 impl Drive {
     // A fresh drive. An address above 47 is refused; the drive beside that refusal has the address,
     // so it is unsound, and every operation refuses it.
-    pub fn fresh(address: DriveAddress) -> Done
+    #[tactic(auto, unfolding(crate::specs::Results::made_as, crate::specs::Results::machine_of, machine::specs::Operations::made, operations::specs::Results::number_of, laws::specs::Tests::choose))]
+    pub fn fresh(address: DriveAddress) -> Result<Drive, Refused>
         ensures result_value { made_as result ≡ made address.0 }
-        ensures drive { result.drive.machine ≡ fresh_of address }
+        ensures drive { machine_of result ≡ fresh_of address }
     {
-        let machine = fresh_machine(address);
-        let drive = Drive { machine };
+        let drive = Drive {
+            machine: fresh_machine(address),
+        };
         if 47 < address.0 {
-            return Done {
+            return Err(Refused {
                 refusal: Refusal::AddressAbove47,
                 drive,
-            };
+            });
         }
-        Done {
-            refusal: Refusal::None,
-            drive,
-        }
+        Ok(drive)
     }
 }

@@ -6,50 +6,32 @@ ghost use Rattle.operations.specs.Results.{shown_during};
 ghost use Rattle.drive.specs.Results.{done_as, waited_as};
 
 use crate::Drive;
-use crate::results::{Done, Waited};
-use crate::wrapping::{accepted, refused};
-use operations::results::{Ending, Refusal};
+use crate::results::{Refused, Waited};
 use operations::time;
-use soundness::sound;
 use units::Milliseconds;
 
 impl Drive {
     // One millisecond.
-    pub fn millisecond(self) -> Done
+    pub fn millisecond(mut self) -> Result<Drive, Refused>
         ensures { done_as result ≡ apply Millisecond self.machine }
     {
-        let machine = self.machine;
-        if !sound(machine) {
-            return refused(Refusal::Unsound, machine);
-        }
-        let state = time::millisecond(machine);
-        accepted(machine, state)
+        self.check()?;
+        self.machine.state = time::millisecond(&self.machine);
+        Ok(self)
     }
 
     // Milliseconds until the drive is idle, moving or the budget is spent.
-    pub fn wait(self, budget: Milliseconds) -> Waited
+    pub fn wait(mut self, budget: Milliseconds) -> Result<Waited, Refused>
         ensures { waited_as result (shown_during budget.0 self.machine) ≡
             apply (Wait budget.0) self.machine }
     {
-        let mut machine = self.machine;
-        if !sound(machine) {
-            let drive = Drive { machine };
-            return Waited {
-                refusal: Refusal::Unsound,
-                ending: Ending::NoWait,
-                drive,
-            };
-        }
-        let passed = time::wait(machine, budget);
-        let refusal = passed.refusal;
-        let ending = passed.ending;
-        let state = passed.state;
-        machine.state = state;
-        let drive = Drive { machine };
-        Waited {
-            refusal,
-            ending,
-            drive,
+        self.check()?;
+        match time::wait(&mut self.machine, budget) {
+            Ok(ending) => Ok(Waited {
+                ending,
+                drive: self,
+            }),
+            Err(refusal) => Err(self.refused(refusal)),
         }
     }
 }

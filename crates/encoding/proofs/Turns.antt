@@ -10,13 +10,14 @@ use lib.Dec.{eqb, ltb}
 use lib.ListN.{length, take, drop, length-drop}
 use lib.Seq.{take_all, drop-drop, drop-length}
 use borrow.Author.Tests.{lt-ltb, le-ltb, ltb-false, eq-eqb, ne_eqb, eqb-false}
+use Rattle.std.specs.Prelude.{Result, Ok, Err}
 use Rattle.laws.specs.Tests.{choose}
 use Rattle.laws.proofs.Tests.{choose-by, choose-true, choose-false}
 use Rattle.encoding.specs.Words.{head_of, size_of, room_of}
-use Rattle.encoding.specs.Refusing.{number_of, judged, refusal_from, refusal_of}
+use Rattle.encoding.specs.Refusing.{judged, refusal_from, refusal_of}
 use Rattle.encoding.specs.declared.Head.{Head}
 use Rattle.encoding.specs.declared.Refusal.{Refusal}
-use Rattle.encoding.specs.declared.Refusal.TheVariants.{None, NoWord, CutShort, ShortBuffer}
+use Rattle.encoding.specs.declared.Refusal.TheVariants.{NoWord, CutShort, ShortBuffer}
 
 -- a slice from a place on is what is left of the list there
 pub part_left : (list : List ℕ) (at : ℕ) → take (length list - at) (drop at list) ≡ drop at list
@@ -33,28 +34,28 @@ refusal-skip (suc k) n (b ∷ l) = refusal-skip k n l
 
 -- ---- the word in front is judged
 
-module _ (n : ℕ) (l : List ℕ) (h : Head) (others : Refusal) where
-  judged-none : size_of h ≡ 0 → judged n l h others ≡ NoWord
+module _ (n : ℕ) (l : List ℕ) (h : Head) (others : Result (Unit {0}) Refusal) where
+  judged-none : size_of h ≡ 0 → judged n l h others ≡ Err NoWord
   unfolding judged
   judged-none e = choose-true _ _ _ (eq-eqb _ _ e)
 
-  judged-size : 0 < size_of h → judged n l h others ≡ choose (ltb (length l) (size_of h)) CutShort (choose (ltb n (room_of h)) ShortBuffer others)
+  judged-size : 0 < size_of h → judged n l h others ≡ choose (ltb (length l) (size_of h)) (Err CutShort) (choose (ltb n (room_of h)) (Err ShortBuffer) others)
   unfolding judged
   judged-size p = choose-false _ _ _ (ne_eqb _ _ (λ (e : size_of h ≡ 0). omega arith))
 
-  judged-cut : 0 < size_of h → length l < size_of h → judged n l h others ≡ CutShort
+  judged-cut : 0 < size_of h → length l < size_of h → judged n l h others ≡ Err CutShort
   judged-cut p q = judged-size p ∙ choose-true _ _ _ (lt-ltb _ _ q)
 
-  judged-short : 0 < size_of h → size_of h ≤ length l → n < room_of h → judged n l h others ≡ ShortBuffer
+  judged-short : 0 < size_of h → size_of h ≤ length l → n < room_of h → judged n l h others ≡ Err ShortBuffer
   judged-short p q r = judged-size p ∙ choose-false _ _ _ (le-ltb _ _ q) ∙ choose-true _ _ _ (lt-ltb _ _ r)
 
   judged-on : 0 < size_of h → size_of h ≤ length l → room_of h ≤ n → judged n l h others ≡ others
   judged-on p q r = judged-size p ∙ choose-false _ _ _ (le-ltb _ _ q) ∙ choose-false _ _ _ (le-ltb _ _ r)
 
 -- the words that follow count only where there is a word
-judged-under : (n : ℕ) (l : List ℕ) (h : Head) {o p : Refusal} → (0 < size_of h → o ≡ p) → judged n l h o ≡ judged n l h p
+judged-under : (n : ℕ) (l : List ℕ) (h : Head) {o p : Result (Unit {0}) Refusal} → (0 < size_of h → o ≡ p) → judged n l h o ≡ judged n l h p
 judged-under n l h {o} {p} f =
-    ⊎_elim (λ (e : size_of h ≡ 0). judged-none n l h o e ∙ sym (judged-none n l h p e)) (λ (q : 0 < size_of h). ap (λ (x : Refusal). judged n l h x) (f q))
+    ⊎_elim (λ (e : size_of h ≡ 0). judged-none n l h o e ∙ sym (judged-none n l h p e)) (λ (q : 0 < size_of h). ap (λ (x : Result (Unit {0}) Refusal). judged n l h x) (f q))
     (eq-zero-or-pos (size_of h))
 
 -- the word in front, then those behind it
@@ -85,21 +86,21 @@ pub record Whole (list : List ℕ) (at left : ℕ) : Type 0 where
   pub size : 1 ≤ size_of (head_of (drop at list))
   pub within : at + size_of (head_of (drop at list)) ≤ length list
   pub room : room_of (head_of (drop at list)) ≤ left
-  pub rest : refusal_from 0 (left - room_of (head_of (drop at list))) (drop (at + size_of (head_of (drop at list))) list) ≡ None
+  pub rest : refusal_from 0 (left - room_of (head_of (drop at list))) (drop (at + size_of (head_of (drop at list))) list) ≡ Ok tt
 
--- what a judgement of None says
-record Taken (n : ℕ) (l : List ℕ) (h : Head) (others : Refusal) : Type 0 where
+-- what it says that nothing is wrong
+record Taken (n : ℕ) (l : List ℕ) (h : Head) (others : Result (Unit {0}) Refusal) : Type 0 where
   size : 1 ≤ size_of h
   within : size_of h ≤ length l
   room : room_of h ≤ n
-  rest : others ≡ None
+  rest : others ≡ Ok tt
 
-taken : (n : ℕ) (l : List ℕ) (h : Head) (others : Refusal) → judged n l h others ≡ None → Taken n l h others
-unfolding judged number_of
+taken : (n : ℕ) (l : List ℕ) (h : Head) (others : Result (Unit {0}) Refusal) → judged n l h others ≡ Ok tt → Taken n l h others
+unfolding judged
 taken n l h others =
-    choose-by (λ (x : Refusal). x ≡ None → Taken n l h others) (eqb (size_of h) 0) (λ t e. absurd (omega (arith, ap number_of e))) (λ t.
-    choose-by (λ (x : Refusal). x ≡ None → Taken n l h others) (ltb (length l) (size_of h)) (λ u e. absurd (omega (arith, ap number_of e))) (λ u.
-    choose-by (λ (x : Refusal). x ≡ None → Taken n l h others) (ltb n (room_of h)) (λ v e. absurd (omega (arith, ap number_of e))) (λ v e.
+    choose-by (λ (x : Result (Unit {0}) Refusal). x ≡ Ok tt → Taken n l h others) (eqb (size_of h) 0) (λ t e. cc) (λ t.
+    choose-by (λ (x : Result (Unit {0}) Refusal). x ≡ Ok tt → Taken n l h others) (ltb (length l) (size_of h)) (λ u e. cc) (λ u.
+    choose-by (λ (x : Result (Unit {0}) Refusal). x ≡ Ok tt → Taken n l h others) (ltb n (room_of h)) (λ v e. cc) (λ v e.
     record {
       size = omega (arith, eqb-false (size_of h) 0 t);
       within = ltb-false _ _ u;
@@ -107,7 +108,7 @@ taken n l h others =
       rest = e;
     })))
 
-pub word-whole : (list : List ℕ) (at left : ℕ) → at < length list → refusal_from 0 left (drop at list) ≡ None → Whole list at left
+pub word-whole : (list : List ℕ) (at left : ℕ) → at < length list → refusal_from 0 left (drop at list) ≡ Ok tt → Whole list at left
 word-whole list at left p e =
     let t = taken left (drop at list) (head_of (drop at list)) _ (sym (turn_at list at left p) ∙ e) in
     record {
@@ -128,7 +129,7 @@ pub checked-start : (list : List ℕ) (space : ℕ) → Checked list space 0 spa
 unfolding refusal_of
 checked-start list space = record { within = omega arith; rest = refl }
 
-pub checked-end : {list : List ℕ} {space at left : ℕ} → Checked list space at left → length list ≤ at → None ≡ refusal_of space list
+pub checked-end : {list : List ℕ} {space at left : ℕ} → Checked list space at left → length list ≤ at → Ok tt ≡ refusal_of space list
 unfolding refusal_from
 checked-end {list} {space} {at} {left} w p =
     let e : at ≡ length list = omega (arith, w.within, p) in
@@ -143,13 +144,13 @@ module _ {list : List ℕ} {space at left s : ℕ} {h : Head} (w : Checked list 
       ∙ ap (λ (x : Head). judged left (drop at list) x (refusal_from 0 (left - room_of x) (drop (at + size_of x) list))) (sym (seen ∙ ap head_of (part_left list at)))
       ∙ ap (λ (k : ℕ). judged left (drop at list) h (refusal_from 0 (left - room_of h) (drop (at + k) list))) (sym sized)
 
-  pub no_word : s ≡ 0 → NoWord ≡ refusal_of space list
+  pub no_word : s ≡ 0 → Err NoWord ≡ refusal_of space list
   no_word e = sym (judged-here ∙ judged-none _ _ _ _ (sym sized ∙ e))
 
-  pub cut_short : (s ≡ 0 → ⊥) → length list - at < s → CutShort ≡ refusal_of space list
+  pub cut_short : (s ≡ 0 → ⊥) → length list - at < s → Err CutShort ≡ refusal_of space list
   cut_short z q = sym (judged-here ∙ judged-cut _ _ _ _ (omega (arith, sized, z)) (omega (arith, sized, length-drop at list)))
 
-  pub short-buffer : {r : ℕ} → r ≡ room_of h → (s ≡ 0 → ⊥) → s ≤ length list - at → left < r → ShortBuffer ≡ refusal_of space list
+  pub short-buffer : {r : ℕ} → r ≡ room_of h → (s ≡ 0 → ⊥) → s ≤ length list - at → left < r → Err ShortBuffer ≡ refusal_of space list
   short-buffer e z q t =
       sym (judged-here ∙ judged-short _ _ _ _ (omega (arith, sized, z)) (omega (arith, sized, length-drop at list)) (omega (arith, e)))
 

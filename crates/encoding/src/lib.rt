@@ -29,8 +29,6 @@ pub enum Head {
 // Why a list is refused whole.
 #[derive(Clone, Copy)]
 pub enum Refusal {
-    // Not refused.
-    None,
     // 2: the drive is unsound.
     Unsound,
     // 100: a byte begins no word.
@@ -42,13 +40,12 @@ pub enum Refusal {
 }
 
 impl Refusal {
-    // Its number, 0 where nothing was refused. Those of lists begin at 100.
+    // Its number. Those of lists begin at 100.
     #[tactic(auto, unfolding(crate::specs::Refusing::number_of))]
     pub fn number(self) -> u8
         ensures { result ≡ number_of self }
     {
         match self {
-            Refusal::None => 0,
             Refusal::Unsound => 2,
             Refusal::NoWord => 100,
             Refusal::CutShort => 101,
@@ -122,26 +119,27 @@ pub fn head_of(list: &[u8]) -> Head
 
 // Whether a list can be carried out with a buffer of so many bytes: the first word at which
 // something is wrong decides.
-pub fn check(list: &[u8], space: usize) -> Refusal
+pub fn check(list: &[u8], space: usize) -> Result<(), Refusal>
     ensures { result ≡ refusal_of space list.now }
 {
     let mut at = 0;
     let mut left = space;
+    // Each word says itself where the next one begins, so no range counts them.
     while at < list.len() {
         let head = head_of(&list[at..]);
         let size = head.size();
         if size == 0 {
-            return Refusal::NoWord;
+            return Err(Refusal::NoWord);
         }
         if list.len() - at < size {
-            return Refusal::CutShort;
+            return Err(Refusal::CutShort);
         }
         let room = head.room();
         if left < room {
-            return Refusal::ShortBuffer;
+            return Err(Refusal::ShortBuffer);
         }
         left -= room;
         at += size;
     }
-    Refusal::None
+    Ok(())
 }

@@ -1,23 +1,19 @@
--- The ways through taking an indexed run and a 69.
+-- The ways through taking an indexed run.
 -- Assumes nothing.
 use mathlib.Core.Path.{◌≡◌, sym}
 use mathlib.Core.Bool.{Bool, true, false}
 use lib.IntN.{ℤ}
-use borrow.Author.Tests.{leb-true, eq-eqb, ne_eqb}
+use borrow.Author.Tests.{leb-true}
 use Rattle.laws.specs.Tests.{choose, both}
 use Rattle.laws.proofs.Tests.{choose-true, choose-false}
 use Rattle.units.specs.Shift.{Within, shift_of, is_beyond_of}
 use Rattle.units.specs.declared.CellAddress.{CellAddress}
 use Rattle.units.proofs.Limits.{within-scaled, within-not-beyond}
-use Rattle.instruction.specs.Codes.{code_of}
 use Rattle.instruction.specs.Soundness.{steps_within}
-use Rattle.instruction.specs.declared.Cell.{Cell}
 use Rattle.instruction.specs.declared.run.Profile.{Profile}
 use Rattle.machine.specs.Starting.{failed}
-use Rattle.machine.specs.Taking.{begin_indexed, shift_for, take_indexed, take, recover, is_recovery, take_cell}
+use Rattle.machine.specs.Taking.{begin_indexed, shift_for, take_indexed}
 use Rattle.machine.specs.declared.State.{State}
-
--- ---- an indexed run
 
 within_by :
     (z : ℤ) (p : Profile) (s : State) (absolute : Bool) → z ≡ shift_of p.steps p.x4 absolute s.position →
@@ -41,14 +37,3 @@ module _ (s : State) (p : Profile) (z : ℤ) (e : z ≡ shift_of p.steps p.x4 s.
       (next : CellAddress) → both s.presets.absolute (is_beyond_of z) ≡ false → begin_indexed s z next ≡ take_indexed s p next
   unfolding take_indexed shift_for
   indexed-near next t = rw e (sym (choose-false _ _ _ (rw e at t)))
-
--- ---- a 69, and any other cell
-
-module _ (s : State) (c held : Cell) where
-  pub recovery-taken : code_of c.instruction ≡ 69 → recover s held ≡ take_cell s c held
-  unfolding take_cell is_recovery
-  recovery-taken k = sym (choose-true _ _ _ (eq-eqb (code_of c.instruction) 69 k))
-
-  pub other-taken : (code_of c.instruction ≡ 69 → ⊥) → take s c.instruction c.next ≡ take_cell s c held
-  unfolding take_cell is_recovery
-  other-taken k = sym (choose-false _ _ _ (ne_eqb (code_of c.instruction) 69 k))

@@ -17,9 +17,10 @@ pub fn millisecond(state: State, cell: Cell, held: Cell) -> State
     if idle(state) {
         return state;
     }
-    let change = next_change(state, cell);
+    let change = next_change(&state, cell);
     if is_more(change) {
-        return take_cell(state, cell, held);
+        take_cell(state, cell, held)
+    } else {
+        changed(state, change)
     }
-    changed(state, change)
 }

@@ -11,8 +11,8 @@ ghost use Rattle.machine.specs.Taking.{recover as recover_of};
 ghost use Rattle.changes.specs.Changes.{is_more, taken_change};
 
 use changes::{changed, is_more, taken_change};
-use instruction::Cell;
 use instruction::run::{Motion, Profile};
+use instruction::{Cell, Instruction};
 use machine::{Phase, Remaining, Resolution, State, Suspended};
 use progress::{advanced, entered, failed, stopped, waiting_at};
 use units::{CellAddress, Steps};
@@ -20,50 +20,37 @@ use units::{CellAddress, Steps};
 fn allows_x4(resolution: Resolution) -> bool
     ensures { result ≡ allows_x4 resolution }
 {
-    match resolution {
-        Resolution::D0 => false,
-        Resolution::D1 => false,
-        Resolution::D2 => true,
-        Resolution::D3 => true,
-        Resolution::B0 => false,
-        Resolution::B1 => false,
-        Resolution::B2 => true,
-        Resolution::B3 => true,
-    }
+    matches!(
+        resolution,
+        Resolution::D2 | Resolution::D3 | Resolution::B2 | Resolution::B3
+    )
 }
 
+#[tactic(auto, unfolding(machine::specs::Taking::lacks_x4, laws::specs::Tests::choose))]
 fn lacks_x4(state: State, x4: bool) -> bool
     ensures { result ≡ lacks_x4 state x4 }
 {
-    if x4 {
-        let presets = state.presets;
-        let resolution = presets.resolution;
-        if allows_x4(resolution) {
-            return false;
-        }
-        return true;
-    }
-    false
+    x4 && !allows_x4(state.presets.resolution)
 }
 
 // Only in absolute mode can a run be too long.
+#[tactic(auto, unfolding(laws::specs::Tests::both))]
 fn too_far(absolute: bool, shift: i64) -> bool
     ensures { result ≡ both absolute (is_beyond_of shift) }
 {
-    if absolute {
-        return units::is_beyond(shift);
-    }
-    false
+    absolute && units::is_beyond(shift)
 }
 
 // A run of a counted number of steps; none passes on.
+#[tactic(auto, unfolding(machine::specs::Taking::begin_indexed, laws::specs::Tests::choose))]
 fn begin_indexed(state: State, shift: Steps, next: CellAddress) -> State
     ensures { result ≡ begin_indexed state shift.0 next }
 {
     if shift.is_zero() {
-        return advanced(state, next);
+        advanced(state, next)
+    } else {
+        entered(state, Phase::Run, Remaining::Counted(shift))
     }
-    entered(state, Phase::Run, Remaining::Counted(shift))
 }
 
 fn take_indexed(state: State, profile: Profile, next: CellAddress) -> State
@@ -79,25 +66,31 @@ fn take_indexed(state: State, profile: Profile, next: CellAddress) -> State
 }
 
 // A run without end is passed over while input ES is on.
+#[tactic(auto, unfolding(machine::specs::Taking::take_free, laws::specs::Tests::choose))]
 fn take_free(state: State, next: CellAddress) -> State
     ensures { result ≡ take_free state next }
 {
     if state.inputs[State::ES] {
-        return advanced(state, next);
+        advanced(state, next)
+    } else {
+        entered(state, Phase::Run, Remaining::Nothing)
     }
-    entered(state, Phase::Run, Remaining::Nothing)
 }
 
 // Its fast part is skipped while PX is on.
+#[tactic(auto, unfolding(machine::specs::Taking::take_search, laws::specs::Tests::choose))]
 fn take_search(state: State) -> State
     ensures { result ≡ take_search state }
 {
-    if state.inputs[State::PX] {
-        return entered(state, Phase::BackOff, Remaining::Nothing);
-    }
-    entered(state, Phase::Run, Remaining::Nothing)
+    let first = if state.inputs[State::PX] {
+        Phase::BackOff
+    } else {
+        Phase::Run
+    };
+    entered(state, first, Remaining::Nothing)
 }
 
+#[tactic(auto, unfolding(machine::specs::Taking::take_motion))]
 fn take_motion(motion: Motion, state: State, profile: Profile, next: CellAddress) -> State
     requires { steps_within profile.steps ≡ true }
     ensures { result ≡ take_motion motion state profile next }
@@ -105,45 +98,44 @@ fn take_motion(motion: Motion, state: State, profile: Profile, next: CellAddress
     match motion {
         Motion::NoRun => advanced(state, next),
         Motion::IndexedRun => take_indexed(state, profile, next),
-        Motion::FreeRun => take_free(state, next),
+        Motion::FreeRun | Motion::DelayedStopRun => take_free(state, next),
         Motion::SearchRun => take_search(state),
-        Motion::DelayedStopRun => take_free(state, next),
     }
 }
 
+#[tactic(auto, unfolding(machine::specs::Taking::take_run, laws::specs::Tests::choose))]
 fn take_run(state: State, profile: Profile, next: CellAddress) -> State
     requires { steps_within profile.steps ≡ true }
     ensures { result ≡ take_run state profile next }
 {
     if lacks_x4(state, profile.x4) {
-        return failed(state, 51);
+        failed(state, 51)
+    } else {
+        take_motion(profile.motion, state, profile, next)
     }
-    let motion = profile.motion;
-    take_motion(motion, state, profile, next)
 }
 
 // The run that a cell asks for.
+#[tactic(auto, using(machine::proofs::Cells::steps_within_run))]
 fn take_run_of(state: State, cell: Cell) -> State
     requires { cell_sound cell ≡ true }
     ensures { result ≡ take_run state (profile_of cell.instruction) cell.next }
 {
-    let instruction = cell.instruction;
-    let next = cell.next;
-    take_run(state, instruction.profile(), next)
+    take_run(state, cell.instruction.profile(), cell.next)
 }
 
 // Takes a cell that changes more: a run begins, and a 69 ends the program, as where its record is
 // empty.
+#[tactic(auto, unfolding(machine::specs::Taking::take))]
 fn take_more(state: State, cell: Cell) -> State
     requires { (cell_sound cell ≡ true) ×
         (is_more (taken_change state cell.instruction cell.next) ≡ true) }
     ensures { result ≡ take_of state cell.instruction cell.next }
 {
-    let instruction = cell.instruction;
-    if instruction.code() == 69 {
-        return stopped(state);
+    match cell.instruction {
+        Instruction::Recovery => stopped(state),
+        _ => take_run_of(state, cell),
     }
-    take_run_of(state, cell)
 }
 
 // Takes the present cell. A 69 is taken here only as one with an empty record.
@@ -151,25 +143,27 @@ fn take(state: State, cell: Cell) -> State
     requires { cell_sound cell ≡ true }
     ensures { result ≡ take_of state cell.instruction cell.next }
 {
-    let change = taken_change(state, cell);
+    let change = taken_change(&state, cell);
     if is_more(change) {
-        return take_more(state, cell);
+        take_more(state, cell)
+    } else {
+        changed(state, change)
     }
-    changed(state, change)
 }
 
 // An indexed run goes on with the steps that remained.
+#[tactic(auto, unfolding(machine::specs::Taking::resume, laws::specs::Tests::choose))]
 fn resume_run(state: State, cell: Cell, steps: Steps) -> State
     ensures { result ≡ resume_of (Remaining.Counted steps) state cell }
 {
-    let instruction = cell.instruction;
-    let x4 = instruction.profile().x4;
-    if lacks_x4(state, x4) {
-        return failed(state, 51);
+    if lacks_x4(state, cell.instruction.profile().x4) {
+        failed(state, 51)
+    } else {
+        entered(state, Phase::Run, Remaining::Counted(steps))
     }
-    entered(state, Phase::Run, Remaining::Counted(steps))
 }
 
+#[tactic(auto, unfolding(machine::specs::Taking::resume))]
 fn resume(remaining: Remaining, state: State, cell: Cell) -> State
     requires { cell_sound cell ≡ true }
     ensures { result ≡ resume_of remaining state cell }
@@ -185,38 +179,32 @@ fn resume(remaining: Remaining, state: State, cell: Cell) -> State
 fn restored(mut state: State) -> State
     ensures { result ≡ restored_of state }
 {
-    let running = waiting_at(state.suspended.cell, state.suspended.loops);
-    let suspended = Suspended {
-        cell: CellAddress(0),
-        remaining: Remaining::Nothing,
-        loops: 0,
-    };
-    state.suspended = suspended;
-    state.running = running;
+    state.running = waiting_at(state.suspended.cell, state.suspended.loops);
+    state.suspended = Suspended::EMPTY;
     state
 }
 
 // Takes a 69, given the interrupted record's cell.
+#[tactic(auto, unfolding(machine::specs::Taking::recover, laws::specs::Tests::choose))]
 fn recover(state: State, cell: Cell) -> State
     requires { cell_sound cell ≡ true }
     ensures { result ≡ recover_of state cell }
 {
-    let suspended = state.suspended;
-    if suspended.cell.0 == 0 {
-        return stopped(state);
+    if state.suspended.cell.0 == 0 {
+        stopped(state)
+    } else {
+        resume(state.suspended.remaining, restored(state), cell)
     }
-    let remaining = suspended.remaining;
-    resume(remaining, restored(state), cell)
 }
 
 // Takes the present cell, given the interrupted record's cell, where a 69 goes on.
+#[tactic(auto, using(machine::proofs::Variants::not_recovery), unfolding(machine::specs::Taking::take_cell, machine::specs::Taking::is_recovery, instruction::specs::Codes::code_of, laws::specs::Tests::choose))]
 pub fn take_cell(state: State, cell: Cell, held: Cell) -> State
     requires { (cell_sound cell ≡ true) × (cell_sound held ≡ true) }
     ensures { result ≡ take_cell state cell held }
 {
-    let instruction = cell.instruction;
-    if instruction.code() == 69 {
-        return recover(state, held);
+    match cell.instruction {
+        Instruction::Recovery => recover(state, held),
+        _ => take(state, cell),
     }
-    take(state, cell)
 }

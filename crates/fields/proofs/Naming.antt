@@ -11,20 +11,20 @@ use Rattle.laws.specs.Tests.{choose, both}
 use Rattle.laws.specs.Tables.{every_from}
 use Rattle.laws.specs.Text.{bytes}
 use Rattle.laws.proofs.Tables.{every_from-at}
-use Rattle.decimal.specs.declared.parse.Number.{Number}
-use Rattle.decimal.specs.declared.parse.Number.TheVariants.{Value, Bad}
+use Rattle.std.specs.declared.option.Option.{Option}
+use Rattle.std.specs.declared.option.Option.TheVariants.{Some, None}
 use Rattle.fields.specs.Names.{pair_of, listed, list_of, place_from}
 use Rattle.fields.specs.declared.names.Names.{Names}
 use Rattle.fields.specs.declared.names.Names.TheVariants.{Settable, Outputs, Conditions, Inputs, Presets, Resolutions}
 
-is_at : ℕ → Number → Bool
-is_at v (Value x) = eqb x v
-is_at v Bad = false
+is_at : ℕ → Option ℕ → Bool
+is_at v (Some x) = eqb x v
+is_at v None = false
 
-is_at-true : (v : ℕ) (x : Number) → is_at v x ≡ true → x ≡ Value v
+is_at-true : (v : ℕ) (x : Option ℕ) → is_at v x ≡ true → x ≡ Some v
 unfolding is_at
-is_at-true v (Value x) t = ap Value (eqb-true x v t)
-is_at-true v Bad t = cc
+is_at-true v (Some x) t = ap Some (eqb-true x v t)
+is_at-true v None t = cc
 
 -- the test, computed for each list
 all_at : List ℕ → Bool
@@ -39,7 +39,7 @@ all_at-list_of Inputs = refl
 all_at-list_of Presets = refl
 all_at-list_of Resolutions = refl
 
-pub place-name : (names : Names) (v : ℕ) → v < length (list_of names) → place_from (list_of names) 0 (get_or (list_of names) v 0) ≡ Value v
+pub place-name : (names : Names) (v : ℕ) → v < length (list_of names) → place_from (list_of names) 0 (get_or (list_of names) v 0) ≡ Some v
 unfolding all_at
 place-name names v h =
     let l = list_of names in

@@ -12,9 +12,10 @@ use borrow.Author.Tests.{ltb-true, lt-ltb, eq-eqb, ne_eqb}
 use Rattle.laws.specs.Tests.{choose}
 use Rattle.laws.proofs.Tests.{choose-by}
 use Rattle.decimal.proofs.Plain.{Plain}
-use Rattle.fields.specs.Reader.{field_length, field_at, Ends}
+use Rattle.std.specs.declared.option.Option.{Option}
+use Rattle.std.specs.declared.option.Option.TheVariants.{Some, None}
+use Rattle.fields.specs.Reader.{field_length, field, field_at, Ends}
 use Rattle.fields.specs.declared.reader.Extent.{Extent}
-use Rattle.fields.specs.declared.reader.Extent.TheVariants.{Field, Missing}
 
 -- one turn: a comma here, another byte, the end
 pub field_length-here : (s : List ℕ) (i : ℕ) → i < length s → get_or s i 0 ≡ 44 → field_length (drop i s) ≡ 0
@@ -35,21 +36,22 @@ field_length-most [] = omega arith
 field_length-most (b ∷ s) = choose-by (λ (n : ℕ). n ≤ length (b ∷ s)) (eqb b 44) (λ t. omega arith) (λ t. omega (arith, field_length-most s))
 
 -- a field lies within its string
-pub extent-within : (s : List ℕ) (at start end : ℕ) → field_at s at ≡ Field start end → (start ≤ end) × (end ≤ length s)
+pub extent-within : (s : List ℕ) (at start end : ℕ) → field_at s at ≡ field start end → (start ≤ end) × (end ≤ length s)
 unfolding field_at
 extent-within s at start end =
     choose-by In (ltb at (length s)) (λ t. choose-by In (eqb (get_or s at 0) 44) (λ u. found (ltb-true _ _ t)) (λ u. missing)) (λ t. missing)
   where
-    In : Extent → Type 0
-    In x = x ≡ Field start end → (start ≤ end) × (end ≤ length s)
+    In : Option Extent → Type 0
+    In x = x ≡ field start end → (start ≤ end) × (end ≤ length s)
 
-    found : at < length s → In (Field (at + 1) (at + 1 + field_length (drop (at + 1) s)))
+    found : at < length s → In (field (at + 1) (at + 1 + field_length (drop (at + 1) s)))
     found h e =
-        let a : at + 1 ≡ start = cc in
-        let b : at + 1 + field_length (drop (at + 1) s) ≡ end = cc in
+        let r : ◌≡◌ {A = Extent} (record { start = at + 1; end = at + 1 + field_length (drop (at + 1) s) }) (record { start = start; end = end }) = cc in
+        let a : at + 1 ≡ start = ap (λ (x : Extent). x.start) r in
+        let b : at + 1 + field_length (drop (at + 1) s) ≡ end = ap (λ (x : Extent). x.end) r in
         omega (arith, field_length-most (drop (at + 1) s), length-drop (at + 1) s)
 
-    missing : In Missing
+    missing : In None
     missing e = let z : ◌≡◌ {A = ℕ} 0 1 = cc in omega arith
 
 -- a plain field in front of its rest
@@ -61,14 +63,14 @@ field_length-plain (b ∷ f) rest p e = simp (ne_eqb b 44 p.0.no_comma) (ap suc 
 
 pub field_at-plain :
     (pre f rest : List ℕ) → Plain f → Ends rest →
-    field_at (pre ++ 44 ∷ (f ++ rest)) (length pre) ≡ Field (length pre + 1) (length pre + 1 + length f)
+    field_at (pre ++ 44 ∷ (f ++ rest)) (length pre) ≡ field (length pre + 1) (length pre + 1 + length f)
 unfolding field_at choose
 field_at-plain pre f rest p e =
     let s : List ℕ = pre ++ 44 ∷ (f ++ rest) in
     let h : length pre < length s = omega (arith, length-append pre (44 ∷ (f ++ rest))) in
     let comma = eq-eqb (get_or s (length pre) 0) 44 (get_or-append_seam pre 44 (f ++ rest) 0) in
     rw (lt-ltb (length pre) (length s) h, comma, drop-append-add pre (44 ∷ (f ++ rest)) 1)
-    (ap (λ (n : ℕ). Field (length pre + 1) (length pre + 1 + n)) (field_length-plain f rest p e))
+    (ap (λ (n : ℕ). field (length pre + 1) (length pre + 1 + n)) (field_length-plain f rest p e))
 
 -- its bytes
 pub part-plain : (pre f rest : List ℕ) → take (length pre + 1 + length f - (length pre + 1)) (drop (length pre + 1) (pre ++ 44 ∷ (f ++ rest))) ≡ f

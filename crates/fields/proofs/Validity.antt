@@ -3,7 +3,7 @@
 use Prim.Native.Nat.{ℕ, zero, suc, ◌+◌, ◌-◌, ◌%◌, ◌^◌, ◌≤◌, ◌<◌}
 use native.Mathlib.Nat.{mod-eq_of_lt}
 use native.Mathlib.Omega.{arith}
-use mathlib.Core.Path.{◌≡◌, refl, sym, ap, ◌∙◌}
+use mathlib.Core.Path.{◌≡◌, refl, sym, ap, ◌∙◌, subst}
 use mathlib.Core.Bool.{Bool, true, false}
 use mathlib.Core.List.{List, [], ◌∷◌}
 use lib.ListN.{length, get_or, take, drop, set, replicate, length-set}
@@ -14,14 +14,13 @@ use Rattle.laws.specs.Tests.{choose}
 use Rattle.laws.specs.Tables.{every}
 use Rattle.laws.proofs.Tests.{both_left, both_right, both_true, choose-by}
 use Rattle.decimal.specs.Parsing.{number_of, fixed_of, within, negated, signed_of, optional_of}
-use Rattle.decimal.specs.declared.parse.Number.{Number}
-use Rattle.decimal.specs.declared.parse.Number.TheVariants.{Value, Bad}
+use Rattle.std.specs.declared.option.Option.{Option}
+use Rattle.std.specs.declared.option.Option.TheVariants.{Some, None}
 use Rattle.fields.specs.Names.{pair_of, list_of, place_from}
 use Rattle.fields.specs.Kinds.{next_of, sign_of, multiplier_digit, multiplier_of, name_of, parse_field, good_signed, good, valid_signed, valid}
 use Rattle.fields.specs.Reader.{field_at}
-use Rattle.fields.specs.Rows.{refusal, on_field, on_value, part, fields_from, parse_fields, ended, parse_all, all_good, all_valid}
+use Rattle.fields.specs.Rows.{on_field, on_value, part, fields_from, parse_fields, ended, parse_all, all_good, all_valid}
 use Rattle.fields.specs.declared.reader.Extent.{Extent}
-use Rattle.fields.specs.declared.reader.Extent.TheVariants.{Field, Missing}
 use Rattle.fields.specs.declared.rows.Parsed.{Parsed}
 use Rattle.fields.specs.declared.names.Names.{Names}
 use Rattle.fields.specs.declared.kinds.Kind.{Kind}
@@ -29,31 +28,31 @@ use Rattle.fields.specs.declared.kinds.Kind.TheVariants.{Fixed, Next, Count, Sig
 use Rattle.fields.proofs.Bounds.{good-signed, between-valid, next-zero, next-valid, signed_above, signed_below}
 
 -- each value that a number can have passes a test; a bad number has none
-Only : (ℕ → Bool) → Number → Type 0
-Only f x = (v : ℕ) → x ≡ Value v → f v ≡ true
+Only : (ℕ → Bool) → Option ℕ → Type 0
+Only f x = (v : ℕ) → x ≡ Some v → f v ≡ true
 
-only-bad : (f : ℕ → Bool) → Only f Bad
+only-bad : (f : ℕ → Bool) → Only f None
 unfolding Only
 only-bad f v e = cc
 
-only-value : (f : ℕ → Bool) (n : ℕ) → f n ≡ true → Only f (Value n)
+only-value : (f : ℕ → Bool) (n : ℕ) → f n ≡ true → Only f (Some n)
 unfolding Only
 only-value f n t v e = let m : n ≡ v = cc in ap f (sym m) ∙ t
 
 -- of a choice, by its branches
-only-choose : (f : ℕ → Bool) (b : Bool) (x y : Number) → (b ≡ true → Only f x) → (b ≡ false → Only f y) → Only f (choose b x y)
+only-choose : (f : ℕ → Bool) (b : Bool) (x y : Option ℕ) → (b ≡ true → Only f x) → (b ≡ false → Only f y) → Only f (choose b x y)
 only-choose f b x y p q = choose-by (Only f) b p q
 
-only-within : (f : ℕ → Bool) (low high : ℕ) (x : Number) → ((v : ℕ) → low ≤ v → v ≤ high → f v ≡ true) → Only f (within low high x)
+only-within : (f : ℕ → Bool) (low high : ℕ) (x : Option ℕ) → ((v : ℕ) → low ≤ v → v ≤ high → f v ≡ true) → Only f (within low high x)
 unfolding within
-only-within f low high Bad p = only-bad f
-only-within f low high (Value v) p =
+only-within f low high None p = only-bad f
+only-within f low high (Some v) p =
     only-choose f _ _ _ (λ l. only-choose f _ _ _ (λ h. only-value f v (p v (leb-true _ _ l) (leb-true _ _ h))) (λ h. only-bad f)) (λ l. only-bad f)
 
-only-negated : (f : ℕ → Bool) (x : Number) → Only (λ v. f ((2 ^ 32 - v) % 2 ^ 32)) x → Only f (negated x)
+only-negated : (f : ℕ → Bool) (x : Option ℕ) → Only (λ v. f ((2 ^ 32 - v) % 2 ^ 32)) x → Only f (negated x)
 unfolding negated Only
-only-negated f Bad p v e = cc
-only-negated f (Value n) p v e = let m : (2 ^ 32 - n) % 2 ^ 32 ≡ v = cc in ap f (sym m) ∙ p n refl
+only-negated f None p v e = cc
+only-negated f (Some n) p v e = let m : (2 ^ 32 - n) % 2 ^ 32 ≡ v = cc in ap f (sym m) ∙ p n refl
 
 -- minus a number of at most `below`
 negated-valid : (below above v : ℕ) → below ≤ 2 ^ 31 → v ≤ below → valid_signed below above ((2 ^ 32 - v) % 2 ^ 32) ≡ true
@@ -79,10 +78,10 @@ optional_of-valid below above [] g = only-bad _
 optional_of-valid below above (b ∷ s) g =
     only-choose _ _ _ _ (λ t. signed_of-valid below above (b ∷ s) g) (λ t. above-valid below above (b ∷ s) (good-signed below above g).1)
 
-next_of-valid : (x : Number) → Only (valid Next) (next_of x)
+next_of-valid : (x : Option ℕ) → Only (valid Next) (next_of x)
 unfolding next_of
-next_of-valid Bad = only-bad _
-next_of-valid (Value v) = only-choose _ _ _ _ (λ t. only-value _ 0 next-zero) (λ t. only-within _ 100 230 (Value v) next-valid)
+next_of-valid None = only-bad _
+next_of-valid (Some v) = only-choose _ _ _ _ (λ t. only-value _ 0 next-zero) (λ t. only-within _ 100 230 (Some v) next-valid)
 
 -- below two
 two : ℕ → Bool
@@ -128,18 +127,18 @@ parse-only Multiplier s g = multiplier_of-valid s
 parse-only (Name names) s g = name_of-valid names s
 
 -- one field of each kind
-pub parse-valid : (k : Kind) (s : List ℕ) (v : ℕ) → good k ≡ true → parse_field k s ≡ Value v → valid k v ≡ true
+pub parse-valid : (k : Kind) (s : List ℕ) (v : ℕ) → good k ≡ true → parse_field k s ≡ Some v → valid k v ≡ true
 unfolding Only
 parse-valid k s v g e = parse-only k s g v e
 
 -- a row's result, by the cases of a field and of its value
-on_field-by : (P : Parsed → Type 0) (x : Extent) {f : ℕ → ℕ → Parsed} → ((start end : ℕ) → P (f start end)) → P refusal → P (on_field x f)
-on_field-by P (Field start end) p q = p start end
-on_field-by P Missing p q = q
+pub on_field-by : (P : Option Parsed → Type 0) (x : Option Extent) {f : ℕ → ℕ → Option Parsed} → ((start end : ℕ) → P (f start end)) → P None → P (on_field x f)
+on_field-by P (Some e) p q = p e.start e.end
+on_field-by P None p q = q
 
-on_value-by : (P : Parsed → Type 0) (x : Number) {f : ℕ → Parsed} → ((v : ℕ) → x ≡ Value v → P (f v)) → P refusal → P (on_value x f)
-on_value-by P (Value v) p q = p v refl
-on_value-by P Bad p q = q
+pub on_value-by : (P : Option Parsed → Type 0) (x : Option ℕ) {f : ℕ → Option Parsed} → ((v : ℕ) → x ≡ Some v → P (f v)) → P None → P (on_value x f)
+on_value-by P (Some v) p q = p v refl
+on_value-by P None p q = q
 
 -- values ws, stored from place i on over vs, are valid, and those before place i are as they were
 record Stored (ks : List Kind) (i : ℕ) (vs ws : List ℕ) : Type 0 where
@@ -162,33 +161,47 @@ stored-step k ks i v vs ws h t r =
       valued = rw (drop-cons ws i 0 (omega arith), here) (both_true t r.valued);
     }
 
+-- what is parsed to the end is what is parsed
+pub ended-some : (s : List ℕ) (x : Option Parsed) (p : Parsed) → ended s x ≡ Some p → x ≡ Some p
+unfolding ended
+ended-some s (Some q) p = choose-by (λ (y : Option Parsed). y ≡ Some p → Some q ≡ Some p) (ltb q.at (length s)) (λ t e. cc) (λ t e. e)
+ended-some s None p = λ e. cc
+
+-- what holds of what is parsed, where it is
+Whole : (Parsed → Type 0) → Option Parsed → Type 0
+Whole P (Some p) = P p
+Whole P None = Unit {0}
+
+whole_of : (P : Parsed → Type 0) {p : Parsed} {x : Option Parsed} → Whole P x → x ≡ Some p → P p
+unfolding Whole
+whole_of P w e = subst (Whole P) e w
+
 from-valid :
     (ks : List Kind) (s vs : List ℕ) (at i : ℕ) → all_good ks ≡ true → i + length ks ≤ length vs →
-    (fields_from ks s at i vs).ok ≡ true → Stored ks i vs (fields_from ks s at i vs).values
-unfolding fields_from all_good every all_valid
-from-valid [] s vs at i g h = λ t. record { long = refl; kept = refl; valued = refl }
+    Whole (λ p. Stored ks i vs p.values) (fields_from ks s at i vs)
+unfolding Whole fields_from all_good every all_valid
+from-valid [] s vs at i g h = record { long = refl; kept = refl; valued = refl }
 from-valid (k ∷ ks) s vs at i g h =
     on_field-by Right (field_at s at) (λ start end. on_value-by Right (parse_field k (part s start end))
-    (λ v e t. stored-step k ks i v vs _ (omega arith) (parse-valid k _ v (both_left _ _ g) e)
-    (from-valid ks s (set vs i v) end (suc i) (both_right _ _ g) (rw (length-set vs i v) (omega arith)) t)) none) none
+    (λ v e. later start end v e _ (from-valid ks s (set vs i v) end (suc i) (both_right _ _ g) (rw (length-set vs i v) (omega arith)))) tt) tt
   where
-    Right : Parsed → Type 0
-    Right p = p.ok ≡ true → Stored (k ∷ ks) i vs p.values
+    Right : Option Parsed → Type 0
+    Right x = Whole (λ p. Stored (k ∷ ks) i vs p.values) x
 
-    none : Right refusal
-    none t = let z : ◌≡◌ {A = ℕ} 0 1 = cc in absurd (omega arith)
+    later : (start end v : ℕ) → parse_field k (part s start end) ≡ Some v → (x : Option Parsed) →
+        Whole (λ p. Stored ks (suc i) (set vs i v) p.values) x → Right x
+    later start end v e (Some p) w = stored-step k ks i v vs _ (omega arith) (parse-valid k _ v (both_left _ _ g) e) w
+    later start end v e None w = tt
 
 -- the fields of a row
 pub fields-valid :
-    (ks : List Kind) (s : List ℕ) (from : ℕ) → all_good ks ≡ true → length ks ≤ 6 →
-    (parse_fields ks s from).ok ≡ true → all_valid ks (parse_fields ks s from).values ≡ true
+    (ks : List Kind) (s : List ℕ) (from : ℕ) (p : Parsed) → all_good ks ≡ true → length ks ≤ 6 →
+    parse_fields ks s from ≡ Some p → all_valid ks p.values ≡ true
 unfolding parse_fields
-fields-valid ks s from g h t = (from-valid ks s (replicate 6 0) from 0 g (omega arith) t).valued
+fields-valid ks s from p g h e = (whole_of (λ q. Stored ks 0 (replicate 6 0) q.values) (from-valid ks s (replicate 6 0) from 0 g (omega arith)) e).valued
 
 pub all_valid_lem :
-    (ks : List Kind) (s : List ℕ) (from : ℕ) → all_good ks ≡ true → length ks ≤ 6 →
-    (parse_all ks s from).ok ≡ true → all_valid ks (parse_all ks s from).values ≡ true
-unfolding parse_all ended
-all_valid_lem ks s from g h =
-    choose-by (λ (p : Parsed). p.ok ≡ true → all_valid ks p.values ≡ true) (ltb (parse_fields ks s from).at (length s))
-    (λ u t. let z : ◌≡◌ {A = ℕ} 0 1 = cc in absurd (omega arith)) (λ u. fields-valid ks s from g h)
+    (ks : List Kind) (s : List ℕ) (from : ℕ) (p : Parsed) → all_good ks ≡ true → length ks ≤ 6 →
+    parse_all ks s from ≡ Some p → all_valid ks p.values ≡ true
+unfolding parse_all
+all_valid_lem ks s from p g h e = fields-valid ks s from p g h (ended-some s _ p e)

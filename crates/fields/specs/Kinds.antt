@@ -1,41 +1,39 @@
 -- One field of each kind: what its bytes say, how it is printed, which values it admits.
 -- Assumes nothing.
-use Rattle.std.specs.Prelude.{ℕ, ◌+◌, ◌-◌, ◌/◌, ◌%◌, ◌^◌, ◌≤◌, ◌≡◌, List, [], ◌∷◌, Bool, true, false, length, get_or, ltb, leb, eqb}
+use Rattle.std.specs.Prelude.{ℕ, ◌+◌, ◌-◌, ◌/◌, ◌%◌, ◌^◌, ◌≤◌, ◌≡◌, List, [], ◌∷◌, Bool, true, false, length, get_or, ltb, leb, eqb, Option, Some, None}
 use Rattle.laws.specs.Tests.{choose, both, either}
 use Rattle.decimal.specs.Printing.{digits, decimal, signed}
 use Rattle.decimal.specs.Parsing.{number_of, fixed_of, within, signed_of, optional_of}
-use Rattle.decimal.specs.declared.parse.Number.{Number}
-use Rattle.decimal.specs.declared.parse.Number.TheVariants.{Value, Bad}
 use Rattle.fields.specs.Names.{pair_of, list_of, place_from}
 use Rattle.fields.specs.declared.names.Names.{Names}
 use Rattle.fields.specs.declared.kinds.Kind.{Kind}
 use Rattle.fields.specs.declared.kinds.Kind.TheVariants.{Fixed, Next, Count, Signed, Optional, Sign, Multiplier, Name}
 
 -- 01: "DDD 000 (end) or 100 to 230"
-unfoldable pub next_of : Number → Number
-next_of (Value v) = choose (eqb v 0) (Value 0) (within 100 230 (Value v))
-next_of Bad = Bad
+unfoldable pub next_of : Option ℕ → Option ℕ
+next_of (Some v) = choose (eqb v 0) (Some 0) (within 100 230 (Some v))
+next_of None = None
 
 -- 01: "s is + or -"
-unfoldable pub sign_of : List ℕ → Number
+unfoldable pub sign_of : List ℕ → Option ℕ
 sign_of s =
     choose (eqb (length s) 1)
-    (choose (eqb (get_or s 0 0) 43) (Value 0) (choose (eqb (get_or s 0 0) 45) (Value 1) Bad)) Bad
+    (choose (eqb (get_or s 0 0) 43) (Some 0) (choose (eqb (get_or s 0 0) 45) (Some 1) None)) None
 
 -- 01: "XX is x1 or x4, also with X, printed x"
-unfoldable pub multiplier_digit : ℕ → Number
-multiplier_digit b = choose (eqb b 49) (Value 0) (choose (eqb b 52) (Value 1) Bad)
+unfoldable pub multiplier_digit : ℕ → Option ℕ
+multiplier_digit b = choose (eqb b 49) (Some 0) (choose (eqb b 52) (Some 1) None)
 
-unfoldable pub multiplier_of : List ℕ → Number
+unfoldable pub multiplier_of : List ℕ → Option ℕ
 multiplier_of s =
     choose (eqb (length s) 2)
     (choose (eqb (get_or s 0 0) 120) (multiplier_digit (get_or s 1 0))
-    (choose (eqb (get_or s 0 0) 88) (multiplier_digit (get_or s 1 0)) Bad)) Bad
+    (choose (eqb (get_or s 0 0) 88) (multiplier_digit (get_or s 1 0)) None)) None
 
-unfoldable pub name_of : Names → List ℕ → Number
-name_of names s = choose (eqb (length s) 2) (place_from (list_of names) 0 (pair_of s)) Bad
+unfoldable pub name_of : Names → List ℕ → Option ℕ
+name_of names s = choose (eqb (length s) 2) (place_from (list_of names) 0 (pair_of s)) None
 
-unfoldable pub parse_field : Kind → List ℕ → Number
+unfoldable pub parse_field : Kind → List ℕ → Option ℕ
 parse_field (Fixed w low high) s = within low high (fixed_of w s)
 parse_field Next s = next_of (fixed_of 3 s)
 parse_field (Count low high) s = within low high (number_of s)

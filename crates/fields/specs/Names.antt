@@ -1,11 +1,9 @@
 -- The lists of names that 01 gives with its fields and presets. A name's value is its place in its list, from 0.
 -- Assumes nothing.
-use Rattle.std.specs.Prelude.{ℕ, suc, ◌+◌, ◌*◌, List, [], ◌∷◌, get_or, eqb}
+use Rattle.std.specs.Prelude.{ℕ, suc, ◌+◌, ◌*◌, List, [], ◌∷◌, get_or, eqb, Option, Some, None}
 use Prim.Native.String.{String}
 use Rattle.laws.specs.Tests.{choose}
 use Rattle.laws.specs.Text.{bytes}
-use Rattle.decimal.specs.declared.parse.Number.{Number}
-use Rattle.decimal.specs.declared.parse.Number.TheVariants.{Value, Bad}
 use Rattle.fields.specs.declared.names.Names.{Names}
 use Rattle.fields.specs.declared.names.Names.TheVariants.{Settable, Outputs, Conditions, Inputs, Presets, Resolutions}
 
@@ -34,6 +32,6 @@ list_of Presets = listed ("AD" ∷ "IN" ∷ "RS" ∷ "ES" ∷ "CM" ∷ [])
 list_of Resolutions = listed ("D0" ∷ "D1" ∷ "D2" ∷ "D3" ∷ "B0" ∷ "B1" ∷ "B2" ∷ "B3" ∷ [])
 
 -- the place of a name in a list, counted from v
-unfoldable pub place_from : List ℕ → ℕ → ℕ → Number
-place_from [] v x = Bad
-place_from (n ∷ ns) v x = choose (eqb x n) (Value v) (place_from ns (suc v) x)
+unfoldable pub place_from : List ℕ → ℕ → ℕ → Option ℕ
+place_from [] v x = None
+place_from (n ∷ ns) v x = choose (eqb x n) (Some v) (place_from ns (suc v) x)

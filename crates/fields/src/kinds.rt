@@ -6,7 +6,8 @@ ghost use Rattle.fields.specs.Kinds.{parse_field, letters_of, print_field, Print
 
 use crate::names;
 use crate::names::Names;
-use decimal::parse::Number;
+use decimal::parse::{read_fixed, read_number, read_optional, read_signed, within_bounds};
+use decimal::print::{put_decimal, put_digits, put_signed};
 
 #[derive(Clone, Copy)]
 pub enum Kind {
@@ -28,125 +29,92 @@ pub enum Kind {
     Name(Names),
 }
 
-fn next_cell(x: Number) -> Number
+#[tactic(auto, unfolding(crate::specs::Kinds::next_of, decimal::specs::Parsing::within, laws::specs::Tests::choose))]
+fn next_cell(x: Option<u32>) -> Option<u32>
     ensures { result ≡ next_of x }
 {
     match x {
-        Number::Bad => Number::Bad,
-        Number::Value(v) => {
-            if v == 0 {
-                return Number::Value(0);
-            }
-            decimal::parse::within_bounds(Number::Value(v), 100, 230)
-        }
+        Some(0) => x,
+        _ => within_bounds(x, 100, 230),
     }
 }
 
-fn parse_sign(s: &[u8]) -> Number
+#[tactic(auto, unfolding(crate::specs::Kinds::sign_of, laws::specs::Tests::choose))]
+fn parse_sign(s: &[u8]) -> Option<u32>
     ensures { result ≡ sign_of s.now }
 {
-    if s.len() == 1 {
-        let b = s[0];
-        if b == b'+' {
-            return Number::Value(0);
-        }
-        if b == b'-' {
-            return Number::Value(1);
-        }
+    match s {
+        [b'+'] => Some(0),
+        [b'-'] => Some(1),
+        _ => None,
     }
-    Number::Bad
 }
 
-fn multiplier_digit(b: u8) -> Number
+#[tactic(auto, unfolding(crate::specs::Kinds::multiplier_digit, laws::specs::Tests::choose))]
+fn multiplier_digit(b: u8) -> Option<u32>
     ensures { result ≡ multiplier_digit b }
 {
-    if b == b'1' {
-        return Number::Value(0);
+    match b {
+        b'1' => Some(0),
+        b'4' => Some(1),
+        _ => None,
     }
-    if b == b'4' {
-        return Number::Value(1);
-    }
-    Number::Bad
 }
 
-fn parse_multiplier(s: &[u8]) -> Number
+#[tactic(auto, unfolding(crate::specs::Kinds::multiplier_of, laws::specs::Tests::choose))]
+fn parse_multiplier(s: &[u8]) -> Option<u32>
     ensures { result ≡ multiplier_of s.now }
 {
-    if s.len() == 2 {
-        let x = s[0];
-        if x == b'x' {
-            return multiplier_digit(s[1]);
-        }
-        if x == b'X' {
-            return multiplier_digit(s[1]);
-        }
+    match s {
+        [b'x' | b'X', b] => multiplier_digit(*b),
+        _ => None,
     }
-    Number::Bad
 }
 
-fn wide(b: u8) -> u16
-    ensures { result ≡ b }
-{
-    b as u16
-}
-
-fn parse_name(names: Names, s: &[u8]) -> Number
+#[tactic(auto, unfolding(crate::specs::Kinds::name_of, crate::specs::Names::pair_of, laws::specs::Tests::choose))]
+fn parse_name(names: Names, s: &[u8]) -> Option<u32>
     ensures { result ≡ name_of names s.now }
 {
-    if s.len() == 2 {
-        return names::find(names, wide(s[0]) * 256 + wide(s[1]));
+    match s {
+        [a, b] => names::find(names, u16::from_be_bytes([*a, *b])),
+        _ => None,
     }
-    Number::Bad
 }
 
 // The value of a field, or that it is wrong.
-pub fn parse_field(kind: Kind, s: &[u8]) -> Number
+#[tactic(auto, unfolding(crate::specs::Kinds::parse_field))]
+pub fn parse_field(kind: Kind, s: &[u8]) -> Option<u32>
     ensures { result ≡ parse_field kind s.now }
 {
     match kind {
-        Kind::Fixed(w, low, high) => decimal::parse::within_bounds(
-            decimal::parse::read_fixed(s, w),
-            low,
-            high,
-        ),
-        Kind::Next => next_cell(decimal::parse::read_fixed(s, 3)),
-        Kind::Count(low, high) => decimal::parse::within_bounds(
-            decimal::parse::read_number(s),
-            low,
-            high,
-        ),
-        Kind::Signed(below, above) => decimal::parse::read_signed(s, below, above),
-        Kind::Optional(below, above) => decimal::parse::read_optional(s, below, above),
+        Kind::Fixed(w, low, high) => within_bounds(read_fixed(s, w), low, high),
+        Kind::Next => next_cell(read_fixed(s, 3)),
+        Kind::Count(low, high) => within_bounds(read_number(s), low, high),
+        Kind::Signed(below, above) => read_signed(s, below, above),
+        Kind::Optional(below, above) => read_optional(s, below, above),
         Kind::Sign => parse_sign(s),
         Kind::Multiplier => parse_multiplier(s),
         Kind::Name(names) => parse_name(names, s),
     }
 }
 
-fn put_byte(buf: &mut [u8], at: usize, a: u8) -> usize
-    requires { at + 1 ≤ length buf.old }
-    ensures { Put buf.old buf.new (a ∷ []) at result }
+#[inline]
+fn put_bytes(buf: &mut [u8], at: usize, bytes: &[u8]) -> usize
+    requires { at + length bytes.now ≤ length buf.old }
+    ensures { Put buf.old buf.new bytes.now at result }
 {
-    buf[at] = a;
-    at + 1
+    let end = at + bytes.len();
+    buf[at..end].copy_from_slice(bytes);
+    end
 }
 
-fn put_pair(buf: &mut [u8], at: usize, a: u8, b: u8) -> usize
-    requires { at + 2 ≤ length buf.old }
-    ensures { Put buf.old buf.new (a ∷ b ∷ []) at result }
-{
-    buf[at] = a;
-    buf[at + 1] = b;
-    at + 2
-}
-
-// The two letters of a name.
+// The two letters of a name. The library's to_be_bytes divides, and what prints may not (02).
 fn put_name(buf: &mut [u8], at: usize, x: u16) -> usize
     requires { at + 2 ≤ length buf.old }
     ensures { Put buf.old buf.new (letters_of x) at result }
 {
     let first = x >> 8;
-    put_pair(buf, at, first as u8, (x - first * 256) as u8)
+    put_bytes(buf, at, &[first as u8, (x - first * 256) as u8])
 }
 
 // A field of a kind, as 01 prints it.
@@ -155,25 +123,15 @@ pub fn put_field(buf: &mut [u8], at: usize, kind: Kind, v: u32) -> usize
     ensures { Put buf.old buf.new (print_field kind v) at result }
 {
     match kind {
-        Kind::Fixed(w, _, _) => decimal::print::put_digits(buf, at, v, w),
-        Kind::Next => decimal::print::put_digits(buf, at, v, 3),
-        Kind::Count(_, _) => decimal::print::put_decimal(buf, at, v),
-        Kind::Signed(_, _) => decimal::print::put_signed(buf, at, v),
-        Kind::Optional(_, _) => decimal::print::put_signed(buf, at, v),
-        Kind::Sign => {
-            if v == 0 {
-                put_byte(buf, at, b'+')
-            } else {
-                put_byte(buf, at, b'-')
-            }
-        }
-        Kind::Multiplier => {
-            if v == 0 {
-                put_pair(buf, at, b'x', b'1')
-            } else {
-                put_pair(buf, at, b'x', b'4')
-            }
-        }
+        Kind::Fixed(w, _, _) => put_digits(buf, at, v, w),
+        Kind::Next => put_digits(buf, at, v, 3),
+        Kind::Count(_, _) => put_decimal(buf, at, v),
+        Kind::Signed(_, _) => put_signed(buf, at, v),
+        Kind::Optional(_, _) => put_signed(buf, at, v),
+        Kind::Sign if v == 0 => put_bytes(buf, at, b"+"),
+        Kind::Sign => put_bytes(buf, at, b"-"),
+        Kind::Multiplier if v == 0 => put_bytes(buf, at, b"x1"),
+        Kind::Multiplier => put_bytes(buf, at, b"x4"),
         Kind::Name(names) => put_name(buf, at, names::name(names, v as usize)),
     }
 }

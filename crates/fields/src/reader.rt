@@ -9,11 +9,11 @@ pub struct Reader<'a> {
     pub at: usize,
 }
 
-// Where the next field lies, or that there is none.
+// Where a field lies.
 #[derive(Clone, Copy)]
-pub enum Extent {
-    Field { start: usize, end: usize },
-    Missing,
+pub struct Extent {
+    pub start: usize,
+    pub end: usize,
 }
 
 impl<'a> Reader<'a> {
@@ -24,11 +24,21 @@ impl<'a> Reader<'a> {
         Reader { src, at }
     }
 
-    // The next field.
-    pub fn field(self) -> Extent
+    // The next field: a comma at the place, then the field.
+    #[tactic(auto, unfolding(crate::specs::Reader::field_at, laws::specs::Tests::choose))]
+    pub fn field(self) -> Option<Extent>
         ensures { result ≡ field_at self.entry.src.now self.entry.at }
     {
-        field_at(self.src, self.at)
+        if self.at < self.src.len() {
+            if self.src[self.at] == b',' {
+                let start = self.at + 1;
+                return Some(Extent {
+                    start,
+                    end: field_end(self.src, start),
+                });
+            }
+        }
+        None
     }
 
     // The same string, at another place: after a field, at its end.
@@ -39,33 +49,15 @@ impl<'a> Reader<'a> {
     }
 }
 
-// The work of the reader: a comma at the place, then the field.
-fn field_at(s: &[u8], at: usize) -> Extent
-    ensures { result ≡ field_at s.now at }
-{
-    if at < s.len() {
-        if s[at] == b',' {
-            let start = at + 1;
-            return Extent::Field {
-                start,
-                end: field_end(s, start),
-            };
-        }
-    }
-    Extent::Missing
-}
-
 // The place of the next comma, or the end.
 fn field_end(s: &[u8], from: usize) -> usize
     requires { from ≤ length s.now }
     ensures { result ≡ from + field_length (drop from s.now) }
 {
-    let mut i = from;
-    while i < s.len() {
+    for i in from..s.len() {
         if s[i] == b',' {
             return i;
         }
-        i += 1;
     }
-    i
+    s.len()
 }

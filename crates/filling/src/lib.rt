@@ -11,6 +11,7 @@ pub fn fill<R: Read>(input: &mut R, space: &mut [u8]) -> usize
     ensures { result ≤ length space.old }
 {
     let mut at = 0;
+    // A `while`, since each read moves the place by as much as came.
     while at < space.len() {
         let n = input.read(&mut space[at..]).unwrap_or(0);
         if n == 0 {

@@ -3,7 +3,7 @@
 use Prim.Native.Nat.{ℕ, ◌≤◌}
 use native.Mathlib.Omega.{arith}
 use mathlib.Core.Path.{◌≡◌, refl, ap, ◌∙◌}
-use mathlib.Core.Bool.{Bool, true}
+use mathlib.Core.Bool.{Bool, true, false}
 use mathlib.Core.List.{List, [], ◌∷◌}
 use mathlib.Core.Logic.{⊎_elim}
 use lib.Dec.{eqb, leb}
@@ -12,11 +12,12 @@ use borrow.Author.Tests.{eqb-true, leb-true}
 use Rattle.laws.specs.Tests.{both}
 use Rattle.laws.specs.Tables.{every}
 use Rattle.laws.proofs.Tests.{both_left, both_right, either-cases, choose-by}
+use Rattle.std.specs.declared.option.Option.{Option}
+use Rattle.std.specs.declared.option.Option.TheVariants.{Some, None}
 use Rattle.fields.specs.Kinds.{good, good_signed}
-use Rattle.fields.specs.Rows.{kinds, all_good}
+use Rattle.fields.specs.Rows.{all_good}
 use Rattle.fields.specs.declared.kinds.Kind.{Kind}
-use Rattle.format.specs.declared.Format.{Format}
-use Rattle.format.specs.Formats.{Entry, formats, fields_in, fields_of, known_in, known, row_holding, format_of}
+use Rattle.format.specs.Formats.{Entry, formats, fields_in, fields_of, known_in, known, format_of}
 
 -- what holds of each entry's fields, and of none, holds of every code's fields
 fields_in-by : (f : List Kind → Bool) (es : List Entry) (code : ℕ) → f [] ≡ true → every (λ (e : Entry). f e.fields) es ≡ true →
@@ -44,30 +45,15 @@ pub formats-few : (code : ℕ) → length (fields_of code) ≤ 6
 unfolding few every both
 formats-few code = leb-true _ _ (fields-by few code refl refl)
 
--- the kinds of a row of up to six are those that it holds
-kinds-row : (ks : List Kind) → length ks ≤ 6 → kinds (row_holding ks) ≡ ks
-unfolding kinds
-kinds-row [] h = refl
-kinds-row (a ∷ []) h = refl
-kinds-row (a ∷ b ∷ []) h = refl
-kinds-row (a ∷ b ∷ c ∷ []) h = refl
-kinds-row (a ∷ b ∷ c ∷ d ∷ []) h = refl
-kinds-row (a ∷ b ∷ c ∷ d ∷ e ∷ []) h = refl
-kinds-row (a ∷ b ∷ c ∷ d ∷ e ∷ f ∷ []) h = refl
-kinds-row (a ∷ b ∷ c ∷ d ∷ e ∷ f ∷ g ∷ ks) h = absurd (omega arith)
-
--- what the format of a code tells: whether there is such a code, its fields and no more, and that they are few
-pub known-format : (code : ℕ) {f : Format} → f ≡ format_of code → f.known ≡ known code
+-- what the format of a code tells: whether there is such a code, and its fields
+pub unknown-format : (code : ℕ) → None ≡ format_of code → known code ≡ false
 unfolding format_of
-known-format code e = ap (λ (f : Format). f.known) e
+unknown-format code = choose-by (λ (x : Option (List Kind)). None ≡ x → known code ≡ false) (known code) (λ t e. cc) (λ t e. t)
 
-pub kinds-format : (code : ℕ) {f : Format} → f ≡ format_of code → kinds f.row ≡ fields_of code
+pub known-format : (code : ℕ) {ks : List Kind} → Some ks ≡ format_of code → (known code ≡ true) × (ks ≡ fields_of code)
 unfolding format_of
-kinds-format code e = ap (λ (f : Format). kinds f.row) e ∙ kinds-row (fields_of code) (formats-few code)
-
-pub few-format : (code : ℕ) {f : Format} → f ≡ format_of code → f.row.count ≤ 6
-unfolding format_of
-few-format code e = rw e (formats-few code)
+known-format code {ks} =
+    choose-by (λ (x : Option (List Kind)). Some ks ≡ x → (known code ≡ true) × (ks ≡ fields_of code)) (known code) (λ t e. (t, cc)) (λ t e. cc)
 
 -- what holds of each code of the table holds of every known code
 known_in-by : (f : ℕ → Bool) (es : List Entry) (code : ℕ) → every (λ (e : Entry). f e.code) es ≡ true → known_in es code ≡ true → f code ≡ true

@@ -1,14 +1,12 @@
 -- The fields of each code, as 01, "Instructions", lists them, with DDD last.
 -- Assumes nothing.
-use Rattle.std.specs.Prelude.{ℕ, suc, Bool, false, List, [], ◌∷◌, eqb, length, get_or}
+use Rattle.std.specs.Prelude.{ℕ, suc, Bool, false, List, [], ◌∷◌, eqb, length, Option, Some, None}
 use Rattle.laws.specs.Tests.{choose, either}
 use Rattle.units.specs.Limits.{step_limit, delay_limit, delay_limit_before, loop_limit}
 use Rattle.fields.specs.Kinds.{is_signed}
 use Rattle.fields.specs.declared.kinds.Kind.{Kind}
 use Rattle.fields.specs.declared.kinds.Kind.TheVariants.{Fixed, Next, Count, Signed, Sign, Multiplier, Name}
-use Rattle.fields.specs.declared.rows.Row.{Row}
 use Rattle.fields.specs.declared.names.Names.TheVariants.{Settable, Conditions}
-use Rattle.format.specs.declared.Format.{Format}
 
 -- 01: "FF in the ramp codes is 03 to 24 thousand Hz, in 11, 12 and LL 02 to 30 hundred Hz; FFF 030 to 240 hundred Hz; RR 10 to 42"
 abbrev pub thousands : Kind
@@ -140,17 +138,6 @@ signed_from i (k ∷ ks) = choose (is_signed k) i (signed_from (suc i) ks)
 unfoldable pub signed_place : List Kind → ℕ
 signed_place ks = signed_from 0 ks
 
--- a row as the code holds it: the first n of six kinds
-abbrev pub six_kinds : ℕ → Kind → Kind → Kind → Kind → Kind → Kind → Row
-six_kinds n a b c d e f = record { count = n; k0 = a; k1 = b; k2 = c; k3 = d; k4 = e; k5 = f }
-
--- the row of up to six fields; past them each kind is Next
-abbrev pub row_holding : List Kind → Row
-row_holding ks = six_kinds (length ks) (get_or ks 0 Next) (get_or ks 1 Next) (get_or ks 2 Next) (get_or ks 3 Next) (get_or ks 4 Next) (get_or ks 5 Next)
-
-abbrev pub format_with : Bool → List Kind → Format
-format_with is_known ks = record { known = is_known; row = row_holding ks }
-
--- the whole format of a code: whether there is such a code, and the row of its fields
-unfoldable pub format_of : ℕ → Format
-format_of code = format_with (known code) (fields_of code)
+-- the format of a code: the kinds of its fields, where there is such a code
+unfoldable pub format_of : ℕ → Option (List Kind)
+format_of code = choose (known code) (Some (fields_of code)) None

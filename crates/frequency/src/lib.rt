@@ -5,12 +5,12 @@ mod table;
 
 ghost use Rattle.std.specs.Prelude.{◌≡◌};
 ghost use Rattle.frequency.specs.Places.{hertz_of, place_of};
-ghost use Rattle.frequency.specs.Rounding.{rounded_of};
+ghost use Rattle.frequency.specs.Rounding.{number_of, rounded_as, rounded_of};
 
 use table::FREQUENCIES;
 
 // A step frequency: its place in the table, from 0.
-#[derive(Clone, Copy)]
+#[derive(Clone, Copy, PartialEq, Eq)]
 pub struct Frequency(pub u16);
 
 impl Frequency {
@@ -50,27 +50,28 @@ pub fn place(value: u32) -> Frequency
     Frequency((617 - 96_000 / (value + 1)) as u16)
 }
 
-// What a value is stored as, or the number of the refusal.
-#[derive(Clone, Copy)]
-pub enum Rounded {
-    Value(u16),
-    Refused(u8),
+// The refusal of a value that no frequency stands for.
+#[derive(Clone, Copy, PartialEq, Eq)]
+pub struct NoFrequency;
+
+impl NoFrequency {
+    const NUMBER: u8 = 7;
+
+    // The number that 01 gives it.
+    pub fn number(self) -> u8
+        ensures { result ≡ number_of self }
+    {
+        NoFrequency::NUMBER
+    }
 }
 
-// The refusal of a value that no frequency stands for.
-const REFUSAL: u8 = 7;
-
-// The greatest frequency not above a value, or refusal 7 for 0 and for more than 4800.
-pub fn round(value: u32) -> Rounded
-    ensures { result ≡ rounded_of value }
+// The greatest frequency not above a value; none for 0 and for more than 4800.
+pub fn round(value: u32) -> Result<u16, NoFrequency>
+    ensures { rounded_as result ≡ rounded_of value }
 {
-    if value == 0 {
-        return Rounded::Refused(REFUSAL);
-    }
-    if value > 4800 {
-        return Rounded::Refused(REFUSAL);
+    if value == 0 || value > 4800 {
+        return Err(NoFrequency);
     }
     let table = FREQUENCIES;
-    let frequency = place(value);
-    Rounded::Value(table[frequency.0 as usize])
+    Ok(table[place(value).0 as usize])
 }

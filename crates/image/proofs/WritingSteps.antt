@@ -1,12 +1,11 @@
 -- The presets' row by its outline, the room that an image needs, and what writing one comes to.
 -- Assumes nothing.
-use Prim.Native.Nat.{ℕ, ◌+◌, ◌*◌, ◌≤◌, ◌<◌}
+use Prim.Native.Nat.{ℕ, ◌+◌, ◌≤◌, ◌<◌}
 use native.Mathlib.Omega.{arith}
 use mathlib.Core.Path.{◌≡◌, refl, ap, sym, ◌∙◌}
 use mathlib.Core.Bool.{true, false}
 use mathlib.Core.List.{List, ◌++◌}
-use lib.Dec.{ltb}
-use lib.ListN.{length, take, drop, replicate, length-append, length-take}
+use lib.ListN.{length, take, drop, length-append, length-take}
 use lib.Seq.{length-sets, take-append_seam}
 use borrow.Author.Tests.{lt-ltb, le-ltb}
 use Rattle.laws.specs.Tests.{choose, both, same}
@@ -14,18 +13,17 @@ use Rattle.laws.specs.Writing.{Put}
 use Rattle.laws.proofs.Tests.{choose-true, choose-false}
 use Rattle.laws.proofs.Writing.{put-append, put_as, sets-front}
 use Rattle.fields.specs.Kinds.{is_signed}
-use Rattle.instruction.specs.declared.Cell.{Cell}
 use Rattle.packed.specs.Rows.{row_bytes, read_row}
 use Rattle.packed.specs.Layout.{laid, laid_read, Writable}
-use Rattle.packed.specs.Cells.{cells_bytes, WritableCells}
+use Rattle.packed.specs.Cells.{cells_bytes}
 use Rattle.packed.proofs.RoundTrip.{length-row}
 use Rattle.packed.proofs.CellRoundTrip.{length-cells}
 use Rattle.packed.proofs.Outlines.{agrees, agrees_from, laid-row, laid-read}
 use Rattle.machine.specs.Soundness.{sound}
 use Rattle.machine.specs.Commands.{preset_kind}
 use Rattle.machine.specs.Operations.{filled}
-use Rattle.machine.specs.Images.{preset_kinds, preset_numbers, image_of, Written, written_into, buffer_by, buffer_written}
-use Rattle.machine.specs.Images.Written.{NotWritten, Image}
+use Rattle.machine.specs.Images.{preset_kinds, preset_numbers, image_of, written_into, buffer_by, buffer_written}
+use Rattle.std.specs.Prelude.{Ok, Err}
 use Rattle.machine.specs.declared.Presets.{Presets}
 use Rattle.machine.specs.declared.Machine.{Machine}
 
@@ -72,10 +70,10 @@ module _ (m : Machine) (vs space : List ℕ) (v : vs ≡ preset_numbers m.state.
   pub presets-writable : Writable 5 6 vs 0 space
   presets-writable = record { few = omega arith; room = omega (arith, lengths, room) }
 
-  pub cells-writable : (space' : List ℕ) (at : ℕ) → Put space space' (laid 5 6 vs) 0 at → WritableCells 128 m.cells at space'
+  pub cells-writable : (space' : List ℕ) (at : ℕ) → Put space space' (laid 5 6 vs) 0 at → at + length (cells_bytes (take 128 m.cells)) ≤ length space'
   cells-writable space' at p =
       let k = ap length p.now ∙ length-sets space 0 (laid 5 6 vs) in
-      record { few = omega arith; room = omega (arith, lengths, room, k, p.next) }
+      omega (arith, lengths, room, k, p.next)
 
   pub image-put :
       (space' space'' : List ℕ) (at e : ℕ) → Put space space' (laid 5 6 vs) 0 at → Put space' space'' (cells_bytes (take 128 m.cells)) at e →
@@ -84,25 +82,25 @@ module _ (m : Machine) (vs space : List ℕ) (v : vs ≡ preset_numbers m.state.
 
 -- ---- what writing comes to
 
-pub written-unsound : (m : Machine) (buffer : List ℕ) → sound m ≡ false → written_into buffer m ≡ NotWritten 2
+pub written-unsound : (m : Machine) (buffer : List ℕ) → sound m ≡ false → written_into buffer m ≡ Err 2
 unfolding written_into
 written-unsound m buffer t = choose-false _ _ _ t
 
-pub written-short : (m : Machine) (buffer : List ℕ) → sound m ≡ true → length buffer < length (image_of m) → written_into buffer m ≡ NotWritten 9
+pub written-short : (m : Machine) (buffer : List ℕ) → sound m ≡ true → length buffer < length (image_of m) → written_into buffer m ≡ Err 9
 unfolding written_into
 written-short m buffer t h = choose-true _ _ _ t ∙ choose-true _ _ _ (lt-ltb (length buffer) (length (image_of m)) h)
 
 pub written-whole :
-    (m : Machine) (buffer : List ℕ) → sound m ≡ true → length (image_of m) ≤ length buffer → written_into buffer m ≡ Image (length (image_of m))
+    (m : Machine) (buffer : List ℕ) → sound m ≡ true → length (image_of m) ≤ length buffer → written_into buffer m ≡ Ok (length (image_of m))
 unfolding written_into
 written-whole m buffer t h = choose-true _ _ _ t ∙ choose-false _ _ _ (le-ltb (length buffer) (length (image_of m)) h)
 
-pub buffer-refused : (m : Machine) (buffer : List ℕ) (k : ℕ) → written_into buffer m ≡ NotWritten k → buffer ≡ buffer_written buffer m
+pub buffer-refused : (m : Machine) (buffer : List ℕ) (k : ℕ) → written_into buffer m ≡ Err k → buffer ≡ buffer_written buffer m
 unfolding buffer_written buffer_by
 buffer-refused m buffer k e = sym (ap (buffer_by buffer m) e)
 
 pub buffer-filled :
-    (m : Machine) (buffer : List ℕ) (n : ℕ) → written_into buffer m ≡ Image n → image_of m ++ drop (length (image_of m)) buffer ≡ buffer_written buffer m
+    (m : Machine) (buffer : List ℕ) (n : ℕ) → written_into buffer m ≡ Ok n → image_of m ++ drop (length (image_of m)) buffer ≡ buffer_written buffer m
 unfolding buffer_written buffer_by filled
 buffer-filled m buffer n e = sym (ap (buffer_by buffer m) e)
 
@@ -116,13 +114,13 @@ image-front m space space' n h p =
 
 -- the image was put into a space, n bytes long
 module _ (m : Machine) (buffer space space' : List ℕ) (n : ℕ) (t : sound m ≡ true) (p : Put space space' (image_of m) 0 n) where
-  pub put-short : length buffer < n → written_into buffer m ≡ NotWritten 9
+  pub put-short : length buffer < n → written_into buffer m ≡ Err 9
   put-short h = written-short m buffer t (omega (arith, p.next))
 
-  pub put_whole : n ≤ length buffer → written_into buffer m ≡ Image n
+  pub put_whole : n ≤ length buffer → written_into buffer m ≡ Ok n
   put_whole h =
       let e : length (image_of m) ≡ n = omega (arith, p.next) in
-      written-whole m buffer t (omega (arith, p.next)) ∙ ap Image e
+      written-whole m buffer t (omega (arith, p.next)) ∙ ap Ok e
 
   -- and copied from there
   pub put-copied :

@@ -7,7 +7,7 @@ ghost use Rattle.image.specs.Results.{written_as};
 
 use crate::presets;
 use crate::presets::preset_numbers;
-use crate::results::{Refusal, Written};
+use crate::results::Refusal;
 use drive::Drive;
 use machine::Machine;
 use packed::{cells, rows};
@@ -26,25 +26,24 @@ fn put_image(space: &mut [u8], machine: Machine) -> usize
 {
     let numbers = preset_numbers(machine.state.presets);
     let at = rows::put_row(space, 0, presets::COUNT, presets::NO_SIGN, &numbers);
-    let kept = machine.cells;
-    cells::put_cells(space, at, kept, KEPT)
+    cells::put_cells(space, at, &machine.cells[..KEPT])
 }
 
-// Writes the image of a drive, idle or busy, to the front of a buffer.
-pub fn write(drive: Drive, buffer: &mut [u8]) -> Written
+// Writes the image of a drive, idle or busy, to the front of a buffer; hands back its length.
+pub fn write(drive: Drive, buffer: &mut [u8]) -> Result<usize, Refusal>
     ensures result_value { written_as result ≡ written_into buffer.old drive.machine }
     ensures buffer { buffer.new ≡
         buffer_written buffer.old drive.machine }
 {
     let machine = drive.machine;
     if !sound(machine) {
-        return Written::Refused(Refusal::Unsound);
+        return Err(Refusal::Unsound);
     }
     let mut space = [0u8; SPACE];
     let length = put_image(&mut space, machine);
     if buffer.len() < length {
-        return Written::Refused(Refusal::ShortBuffer);
+        return Err(Refusal::ShortBuffer);
     }
     scan::copy(&space[..length], buffer);
-    Written::Image { length }
+    Ok(length)
 }

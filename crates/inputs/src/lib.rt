@@ -1,8 +1,7 @@
 // An inputs word: what it does to a drive, given the state and the cell that is present before it.
 #![tactic(auto)]
 
-ghost use Rattle.std.specs.Prelude.{◌≡◌, true, ◌≤◌};
-ghost use Rattle.instruction.specs.Numbers.{bit_of};
+ghost use Rattle.std.specs.Prelude.{◌≡◌, true};
 ghost use Rattle.instruction.specs.Soundness.{cell_sound};
 ghost use Rattle.machine.specs.InputWords.{inputs_of, selected_cell, starts as starts_of};
 ghost use Rattle.machine.specs.InputWords.{judged_st, judged_ee, judged_es, judged_px, input_word_at};
@@ -21,31 +20,22 @@ pub fn inputs_of(word: u16) -> [bool; 11]
 {
     let mut inputs = [false; 11];
     let mut left = word;
-    let mut i: usize = 0;
-    while i < 11 {
-        inputs[i] = left % 2 == 1;
-        left = left / 2;
-        i += 1;
+    for input in &mut inputs {
+        *input = left % 2 == 1;
+        left /= 2;
     }
     inputs
 }
 
-fn bit(on: bool) -> u8
-    ensures value { result ≡ bit_of on }
-    ensures small { result ≤ 1 }
-{
-    if on { 1 } else { 0 }
-}
-
 // The cell that S0 to S3 select.
-#[tactic(auto, unfolding(machine::specs::InputWords::selected_cell))]
+#[tactic(auto, unfolding(machine::specs::InputWords::selected_cell, instruction::specs::Numbers::bit_of))]
 pub fn selected_cell(state: State) -> CellAddress
     ensures { result ≡ selected_cell state }
 {
-    let s0 = bit(state.inputs[State::S0]);
-    let s1 = bit(state.inputs[State::S0 + 1]);
-    let s2 = bit(state.inputs[State::S0 + 2]);
-    let s3 = bit(state.inputs[State::S0 + 3]);
+    let s0 = u8::from(state.inputs[State::S0]);
+    let s1 = u8::from(state.inputs[State::S0 + 1]);
+    let s2 = u8::from(state.inputs[State::S0 + 2]);
+    let s3 = u8::from(state.inputs[State::S0 + 3]);
     CellAddress(100 + s0 + 2 * s1 + 4 * s2 + 8 * s3)
 }
 
@@ -54,22 +44,11 @@ pub fn selected_cell(state: State) -> CellAddress
 pub fn starts(before: State, state: State) -> bool
     ensures { result ≡ starts_of before state }
 {
-    if !idle(before) {
-        return false;
-    }
-    if before.inputs[State::ST] {
-        return false;
-    }
-    if !state.inputs[State::ST] {
-        return false;
-    }
-    if state.inputs[State::EE] {
-        return false;
-    }
-    if state.presets.interlock {
-        return !state.inputs[State::ES];
-    }
-    true
+    idle(before)
+        && !before.inputs[State::ST]
+        && state.inputs[State::ST]
+        && !state.inputs[State::EE]
+        && !(state.presets.interlock && state.inputs[State::ES])
 }
 
 #[tactic(auto, unfolding(laws::specs::Tests::choose, machine::specs::InputWords::judged_st))]
@@ -77,10 +56,10 @@ pub fn judged_st(before: State, state: State) -> State
     ensures { result ≡ judged_st before state }
 {
     if starts(before, state) {
-        let at = selected_cell(state);
-        return started(state, at);
+        started(state, selected_cell(state))
+    } else {
+        state
     }
-    state
 }
 
 #[tactic(auto, unfolding(laws::specs::Tests::choose, machine::specs::InputWords::judged_ee))]
@@ -88,32 +67,29 @@ pub fn judged_ee(state: State, cell: Cell) -> State
     ensures { result ≡ judged_ee state cell }
 {
     if state.inputs[State::EE] {
-        return emergency_stop(state, cell);
+        emergency_stop(state, cell)
+    } else {
+        state
     }
-    state
 }
 
-#[tactic(auto, unfolding(laws::specs::Tests::choose, machine::specs::InputWords::judged_es, machine::specs::Stopping::free_run_stop_at))]
+#[tactic(auto, using(machine::proofs::Cells::steps_within_run), unfolding(laws::specs::Tests::choose, machine::specs::InputWords::judged_es))]
 pub fn judged_es(state: State, cell: Cell) -> State
     requires { cell_sound cell ≡ true }
     ensures { result ≡ judged_es state cell }
 {
     if state.inputs[State::ES] {
-        let instruction = cell.instruction;
-        let profile = instruction.profile();
-        return free_run_stop(state, profile, cell.next);
+        free_run_stop(state, cell)
+    } else {
+        state
     }
-    state
 }
 
-#[tactic(auto, unfolding(machine::specs::InputWords::judged_px, machine::specs::Stopping::px_seen_at))]
+#[tactic(auto, unfolding(machine::specs::InputWords::judged_px))]
 pub fn judged_px(state: State, cell: Cell) -> State
     ensures { result ≡ judged_px state cell }
 {
-    let px = state.inputs[State::PX];
-    let instruction = cell.instruction;
-    let profile = instruction.profile();
-    px_seen(px, state, profile, cell.next)
+    px_seen(state.inputs[State::PX], state, cell)
 }
 
 // An inputs word: ST, then EE, ES and PX, at the cell that is present before it.
@@ -122,9 +98,10 @@ pub fn input_word(word: u16, state: State, cell: Cell) -> State
     requires { cell_sound cell ≡ true }
     ensures { result ≡ input_word_at word state cell }
 {
-    let inputs = inputs_of(word);
-    let mut seen = state;
-    seen.inputs = inputs;
+    let seen = State {
+        inputs: inputs_of(word),
+        ..state
+    };
     let begun = judged_st(state, seen);
     let ended = judged_ee(begun, cell);
     let stopped = judged_es(ended, cell);

@@ -14,12 +14,13 @@ use Rattle.fields.specs.Reader.{field_length, field_at}
 use Rattle.fields.specs.Names.{pair_of, listed, list_of, place_from}
 use Rattle.fields.specs.Kinds.{next_of, sign_of, multiplier_digit, multiplier_of, name_of, parse_field, letters_of, print_field}
 use Rattle.fields.specs.Rows.{fields_from, parse_fields, ended, parse_all, print_fields}
+use Rattle.instruction.specs.declared.Cell.{Cell}
 use Rattle.instruction.specs.Codes.{code_of}
 use Rattle.format.specs.Formats.{fields_in, fields_of, known_in, known}
 use Rattle.instruction.specs.Numbers.{travel_of, numbers_with, cam_of, cell_with, cell_of}
 use Rattle.instruction.specs.Texts.{cell_text, sent_fields, sent_code, sent_cell}
-use Rattle.instruction.specs.declared.text.Sent.{Sent}
-use Rattle.instruction.specs.declared.text.Sent.TheVariants.{Held, Wrong}
+use Rattle.std.specs.declared.option.Option.{Option}
+use Rattle.std.specs.declared.option.Option.TheVariants.{Some, None}
 
 -- what the cases unfold
 computing : Unit {0}
@@ -30,9 +31,9 @@ unfolding choose both either bytes digits width_from width decimal signed value_
 computing = tt
 
 -- what QM shows of what was stored
-shown : Sent → List ℕ
-shown (Held c) = cell_text c
-shown Wrong = []
+shown : Option Cell → List ℕ
+shown (Some c) = cell_text c
+shown None = []
 
 -- what is sent, and what is shown
 cases : List (String × String)

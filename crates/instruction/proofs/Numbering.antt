@@ -1,17 +1,17 @@
 -- A cell from its numbers: its code and its numbers say all of it. Lists of numbers, compared one by one.
 -- Assumes nothing.
-use Prim.Native.Nat.{ℕ, ◌+◌, ◌≤◌, ◌<◌}
-use native.Mathlib.Numerals.{add-one}
+use Prim.Native.Nat.{ℕ}
 use mathlib.Core.Path.{◌≡◌, refl, ap, sym, ◌∙◌}
-use mathlib.Core.Bool.{Bool, true, false, ◌&&◌}
+use mathlib.Core.Bool.{Bool, true, false}
 use mathlib.Core.List.{List, [], ◌∷◌}
 use lib.Dec.{eqb}
-use lib.ListN.{length, get_or, take, drop, replicate, drop_of_length-le}
-use lib.Seq.{sets, length-sets, drop-cons}
+use lib.Pointwise.{pointwise}
+use lib.ListN.{length, get_or, take, replicate}
+use lib.Seq.{sets, length-sets}
 use borrow.Author.Tests.{eqb-true, eq-eqb}
 use Rattle.laws.specs.Tests.{choose, both, either}
 use Rattle.laws.proofs.Tests.{both_left, both_right, both_true}
-use Rattle.laws.proofs.Joins.{and_both, both_end, both-assoc}
+use Rattle.laws.proofs.Joins.{and_both}
 use Rattle.laws.proofs.Telling.{Apart, unequal-apart}
 use Rattle.units.specs.declared.CellAddress.{CellAddress}
 use Rattle.units.specs.declared.position.Position.{Position}
@@ -131,17 +131,10 @@ numbers-same (x ∷ k) (y ∷ l) t =
     let m = numbers-same k l (both_right _ _ t) in
     cc
 
-module _ (same : Bool) (xs ys : List ℕ) (i : ℕ) where
-  -- what is found so far, joined to what is left, stays the same when one more is compared
-  pub same_turn : i < length xs → i < length ys →
-      both (same && eqb (get_or xs i 0) (get_or ys i 0)) (same_numbers (drop (i + 1) xs) (drop (i + 1) ys))
-      ≡ both same (same_numbers (drop i xs) (drop i ys))
-  unfolding same_numbers
-  same_turn h g =
-      rw (add-one i, drop-cons xs i 0, drop-cons ys i 0, and_both)
-      (both-assoc same (eqb (get_or xs i 0) (get_or ys i 0)) _)
-
-  -- all are compared
-  pub same_end : length xs ≤ i → length ys ≤ i → both same (same_numbers (drop i xs) (drop i ys)) ≡ same
-  unfolding same_numbers
-  same_end h g = rw (drop_of_length-le xs h, drop_of_length-le ys g) (both_end same)
+-- as `==` compares arrays
+pub pointwise-same : (xs ys : List ℕ) → pointwise eqb xs ys ≡ same_numbers xs ys
+unfolding same_numbers
+pointwise-same [] [] = refl
+pointwise-same [] (y ∷ ys) = refl
+pointwise-same (x ∷ xs) [] = refl
+pointwise-same (x ∷ xs) (y ∷ ys) = and_both _ _ ∙ ap (both (eqb x y)) (pointwise-same xs ys)

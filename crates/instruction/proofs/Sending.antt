@@ -15,7 +15,10 @@ use Rattle.laws.proofs.Tests.{both_left, both_right, both_true, choose-by, choos
 use Rattle.fields.specs.Reader.{Ends}
 use Rattle.fields.specs.Kinds.{good, valid, most}
 use Rattle.fields.specs.Rows.{parse_fields, parse_all, print_fields, all_good, all_valid, most_all}
+use Rattle.std.specs.declared.option.Option.{Option}
+use Rattle.std.specs.declared.option.Option.TheVariants.{Some, None}
 use Rattle.fields.specs.declared.kinds.Kind.{Kind}
+use Rattle.fields.specs.declared.rows.Parsed.{Parsed}
 use Rattle.fields.proofs.RoundTrip.{fields_back, all_back}
 use Rattle.fields.proofs.Lengths.{fields-most}
 use Rattle.fields.proofs.Validity.{all_valid_lem}
@@ -25,31 +28,30 @@ use Rattle.instruction.specs.Numbers.{numbers_of, cell_of}
 use Rattle.instruction.specs.Soundness.{cell_sound}
 use Rattle.instruction.specs.Texts.{code_kind, cell_text, sent_fields, sent_code, sent_cell}
 use Rattle.instruction.specs.declared.Cell.{Cell}
-use Rattle.instruction.specs.declared.text.Sent.{Sent}
-use Rattle.instruction.specs.declared.text.Sent.TheVariants.{Held, Wrong}
 use Rattle.format.proofs.Entries.{fields-by, formats-good, formats-few, known_by}
 use Rattle.instruction.proofs.Values.{valid_same}
 use Rattle.instruction.proofs.Numbering.{known-code, numbers-zeros, length-numbers, cell-numbers}
 use Rattle.instruction.proofs.Storing.{sound-cell}
 
 -- what is stored of a string is sound
-pub sent-sound : (s : List ℕ) (from : ℕ) (c : Cell) → sent_cell s from ≡ Held c → cell_sound c ≡ true
+pub sent-sound : (s : List ℕ) (from : ℕ) (c : Cell) → sent_cell s from ≡ Some c → cell_sound c ≡ true
 unfolding sent_cell sent_code sent_fields
-sent-sound s from c =
-    let p = parse_fields (code_kind ∷ []) s from in
-    let code = get_or p.values 0 0 in
-    let q = parse_all (fields_of code) s p.at in
-    choose-by Right _ (λ k. choose-by Right q.ok (λ o e. right code q.values e (both_right p.ok _ k)
-    (all_valid_lem (fields_of code) s p.at (formats-good code) (formats-few code) o)) (λ o. wrong)) (λ k. wrong)
+sent-sound s from c = by-code (parse_fields (code_kind ∷ []) s from)
   where
-    Right : Sent → Type 0
-    Right x = x ≡ Held c → cell_sound c ≡ true
+    Right : Option Cell → Type 0
+    Right x = x ≡ Some c → cell_sound c ≡ true
 
-    wrong : Right Wrong
-    wrong e = cc
+    by-fields : (code : ℕ) (x : Option Parsed) → known code ≡ true → ((q : Parsed) → x ≡ Some q → all_valid (fields_of code) q.values ≡ true) →
+        Right (sent_fields code x)
+    by-fields code (Some q) k v = λ e. let d : cell_of code q.values ≡ c = cc in ap cell_sound (sym d) ∙ sound-cell code q.values k (v q refl)
+    by-fields code None k v = λ e. cc
 
-    right : (code : ℕ) (vs : List ℕ) → Held (cell_of code vs) ≡ Held c → known code ≡ true → all_valid (fields_of code) vs ≡ true → cell_sound c ≡ true
-    right code vs e k t = let d : cell_of code vs ≡ c = cc in ap cell_sound (sym d) ∙ sound-cell code vs k t
+    by-code : (x : Option Parsed) → Right (sent_code s x)
+    by-code (Some p) =
+        let code = get_or p.values 0 0 in
+        choose-by Right (known code)
+        (λ k. by-fields code _ k (λ q e. all_valid_lem (fields_of code) s p.at q (formats-good code) (formats-few code) e)) (λ k e. cc)
+    by-code None = λ e. cc
 
 -- ---- the text
 
@@ -106,7 +108,7 @@ good-code = refl
 -- the fields after the code
 row_back : (c : Cell) (pre : List ℕ) → cell_sound c ≡ true →
     (let code = code_of c.instruction in
-    sent_fields code (parse_all (fields_of code) (pre ++ print_fields (fields_of code) (numbers_of c)) (length pre)) ≡ Held c)
+    sent_fields code (parse_all (fields_of code) (pre ++ print_fields (fields_of code) (numbers_of c)) (length pre)) ≡ Some c)
 unfolding cell_sound sent_fields choose
 row_back c pre s =
     let code = code_of c.instruction in
@@ -116,18 +118,18 @@ row_back c pre s =
     let t = valid_same ks (numbers_of c) vs (omega arith) (λ i l. sym (get_or-take (length ks) (numbers_of c) i 0 l)) (both_left _ _ s) in
     ap (λ (q : List ℕ). sent_fields code (parse_all ks (pre ++ q) (length pre))) (sym (print-take ks (numbers_of c)))
     ∙ ap (sent_fields code) (all_back ks vs pre (formats-good code) t (sym long))
-    ∙ ap (λ (ws : List ℕ). Held (cell_of code ws)) (sym (numbers-zeros c))
-    ∙ ap Held (cell-numbers c s)
+    ∙ ap (λ (ws : List ℕ). Some (cell_of code ws)) (sym (numbers-zeros c))
+    ∙ ap Some (cell-numbers c s)
 
 -- 01: "QM,BBB as WN stored it": the text of a sound cell says that cell
-pub sent-text : (c : Cell) (pre : List ℕ) → cell_sound c ≡ true → sent_cell (pre ++ cell_text c) (length pre) ≡ Held c
+pub sent-text : (c : Cell) (pre : List ℕ) → cell_sound c ≡ true → sent_cell (pre ++ cell_text c) (length pre) ≡ Some c
 unfolding cell_text sent_cell sent_code
 sent-text c pre s =
     let code = code_of c.instruction in
     let p = print_fields (code_kind ∷ []) (code ∷ []) in
     let q = print_fields (fields_of code) (numbers_of c) in
     ap (sent_code (pre ++ (p ++ q))) (fields_back (code_kind ∷ []) (code ∷ []) pre q good-code (valid-code c) refl (ends-print _ _))
-    ∙ choose-true (both true (known code)) _ Wrong (both_true refl (known-code c.instruction))
+    ∙ choose-true (known code) _ None (known-code c.instruction)
     ∙ ap (λ (x : List ℕ). sent_fields code (parse_all (fields_of code) x (length pre + length p))) (sym (append_assoc pre p q))
     ∙ ap (λ (n : ℕ). sent_fields code (parse_all (fields_of code) ((pre ++ p) ++ q) n)) (sym (length-append pre p))
     ∙ row_back c (pre ++ p) s

@@ -41,26 +41,24 @@ impl Instruction {
         ensures { result ≡ length (fields_of (code_of self)) }
     {
         match self {
-            Instruction::Null => 1,
-            Instruction::IndexedRamp { .. } => 5,
-            Instruction::IndexedRampFine { .. } => 5,
-            Instruction::FreeRamp { .. } => 5,
-            Instruction::FreeRampFine { .. } => 5,
-            Instruction::Indexed { .. } => 4,
-            Instruction::IndexedFine { .. } => 4,
-            Instruction::Free { .. } => 4,
-            Instruction::FreeFine { .. } => 4,
-            Instruction::ZeroSearch { .. } => 5,
-            Instruction::DelayedStop { .. } => 6,
-            Instruction::CamSetting { .. } => 3,
-            Instruction::OutputSetting { .. } => 3,
-            Instruction::CounterReset => 1,
-            Instruction::OpeningLoop { .. } => 2,
-            Instruction::ClosingLoop { .. } => 2,
-            Instruction::ConditionalJump { .. } => 4,
-            Instruction::TimeDelay { .. } => 2,
             Instruction::Recovery => 0,
-            Instruction::CurrentSetting { .. } => 2,
+            Instruction::Null | Instruction::CounterReset => 1,
+            Instruction::OpeningLoop { .. }
+            | Instruction::ClosingLoop { .. }
+            | Instruction::TimeDelay { .. }
+            | Instruction::CurrentSetting { .. } => 2,
+            Instruction::CamSetting { .. } | Instruction::OutputSetting { .. } => 3,
+            Instruction::Indexed { .. }
+            | Instruction::IndexedFine { .. }
+            | Instruction::Free { .. }
+            | Instruction::FreeFine { .. }
+            | Instruction::ConditionalJump { .. } => 4,
+            Instruction::IndexedRamp { .. }
+            | Instruction::IndexedRampFine { .. }
+            | Instruction::FreeRamp { .. }
+            | Instruction::FreeRampFine { .. }
+            | Instruction::ZeroSearch { .. } => 5,
+            Instruction::DelayedStop { .. } => 6,
         }
     }
 }

@@ -13,7 +13,7 @@ use units::{CellAddress, Milliseconds, Position, Steps};
 fn bit(b: bool) -> u32
     ensures { result ≡ bit_of b }
 {
-    if b { 1 } else { 0 }
+    u32::from(b)
 }
 
 fn one(v: u32) -> bool
@@ -38,23 +38,13 @@ impl Travel {
     pub fn backward(self) -> bool
         ensures { result ≡ travel_backward self }
     {
-        match self {
-            Travel::Forward => false,
-            Travel::ForwardX4 => false,
-            Travel::Backward => true,
-            Travel::BackwardX4 => true,
-        }
+        matches!(self, Travel::Backward | Travel::BackwardX4)
     }
 
     pub fn x4(self) -> bool
         ensures { result ≡ travel_x4 self }
     {
-        match self {
-            Travel::Forward => false,
-            Travel::ForwardX4 => true,
-            Travel::Backward => false,
-            Travel::BackwardX4 => true,
-        }
+        matches!(self, Travel::ForwardX4 | Travel::BackwardX4)
     }
 }
 
@@ -62,65 +52,12 @@ impl Travel {
 fn travel(backward: bool, x4: bool) -> Travel
     ensures { result ≡ travel_of backward x4 }
 {
-    if backward {
-        if x4 {
-            return Travel::BackwardX4;
-        }
-        return Travel::Backward;
+    match (backward, x4) {
+        (false, false) => Travel::Forward,
+        (false, true) => Travel::ForwardX4,
+        (true, false) => Travel::Backward,
+        (true, true) => Travel::BackwardX4,
     }
-    if x4 {
-        return Travel::ForwardX4;
-    }
-    Travel::Forward
-}
-
-// The numbers of 01 and 31.
-fn indexed_ramp_numbers(f: u8, r: u8, x4: bool, steps: Steps, next: u32) -> [u32; 6]
-    ensures { result ≡ six f r (bits_of steps) (bit_of x4) next 0 }
-{
-    [f as u32, r as u32, steps.bits(), bit(x4), next, 0]
-}
-
-// The numbers of 02 and 32.
-fn free_ramp_numbers(f: u8, r: u8, backward: bool, x4: bool, next: u32) -> [u32; 6]
-    ensures { result ≡ six f r (bit_of backward) (bit_of x4) next 0 }
-{
-    [f as u32, r as u32, bit(backward), bit(x4), next, 0]
-}
-
-// The numbers of 11 and 21.
-fn indexed_numbers(f: u16, x4: bool, steps: Steps, next: u32) -> [u32; 6]
-    ensures { result ≡ six f (bits_of steps) (bit_of x4) next 0 0 }
-{
-    [f as u32, steps.bits(), bit(x4), next, 0, 0]
-}
-
-// The numbers of 12 and 22.
-fn free_numbers(f: u16, backward: bool, x4: bool, next: u32) -> [u32; 6]
-    ensures { result ≡ six f (bit_of backward) (bit_of x4) next 0 0 }
-{
-    [f as u32, bit(backward), bit(x4), next, 0, 0]
-}
-
-// The numbers of 03.
-fn search_numbers(f: u8, r: u8, backward: bool, slow: u8, next: u32) -> [u32; 6]
-    ensures { result ≡ six f r (bit_of backward) slow next 0 }
-{
-    [f as u32, r as u32, bit(backward), slow as u32, next, 0]
-}
-
-// The numbers of 05.
-fn stop_numbers(f: u8, r: u8, t: Travel, n: Steps, next: u32) -> [u32; 6]
-    ensures { result ≡ six f r (bit_of (travel_backward t)) (bits_of n) (bit_of (travel_x4 t)) next }
-{
-    [
-        f as u32,
-        r as u32,
-        bit(t.backward()),
-        n.bits(),
-        bit(t.x4()),
-        next,
-    ]
 }
 
 impl Instruction {
@@ -130,76 +67,104 @@ impl Instruction {
         ensures { result ≡ numbers_with self next }
     {
         match self {
-            Instruction::Null => [next, 0, 0, 0, 0, 0],
             Instruction::IndexedRamp {
-                frequency,
-                ramp,
+                frequency: f,
+                ramp: r,
                 x4,
                 steps,
-            } => indexed_ramp_numbers(frequency, ramp, x4, steps, next),
-            Instruction::IndexedRampFine {
-                frequency,
-                ramp,
+            }
+            | Instruction::IndexedRampFine {
+                frequency: f,
+                ramp: r,
                 x4,
                 steps,
-            } => indexed_ramp_numbers(frequency, ramp, x4, steps, next),
+            } => { [u32::from(f), u32::from(r), steps.bits(), bit(x4), next, 0] }
             Instruction::FreeRamp {
-                frequency,
-                ramp,
+                frequency: f,
+                ramp: r,
                 backward,
                 x4,
-            } => free_ramp_numbers(frequency, ramp, backward, x4, next),
-            Instruction::FreeRampFine {
-                frequency,
-                ramp,
+            }
+            | Instruction::FreeRampFine {
+                frequency: f,
+                ramp: r,
                 backward,
                 x4,
-            } => free_ramp_numbers(frequency, ramp, backward, x4, next),
+            } => { [u32::from(f), u32::from(r), bit(backward), bit(x4), next, 0] }
             Instruction::Indexed {
-                frequency,
+                frequency: f,
                 x4,
                 steps,
-            } => indexed_numbers(frequency as u16, x4, steps, next),
+            } => { [u32::from(f), steps.bits(), bit(x4), next, 0, 0] }
             Instruction::IndexedFine {
+                frequency: f,
                 x4,
-                frequency,
                 steps,
-            } => indexed_numbers(frequency.hertz(), x4, steps, next),
+            } => { [u32::from(f.hertz()), steps.bits(), bit(x4), next, 0, 0] }
             Instruction::Free {
-                frequency,
+                frequency: f,
                 backward,
                 x4,
-            } => free_numbers(frequency as u16, backward, x4, next),
+            } => { [u32::from(f), bit(backward), bit(x4), next, 0, 0] }
             Instruction::FreeFine {
+                frequency: f,
                 backward,
                 x4,
-                frequency,
-            } => free_numbers(frequency.hertz(), backward, x4, next),
+            } => { [u32::from(f.hertz()), bit(backward), bit(x4), next, 0, 0] }
             Instruction::ZeroSearch {
-                frequency,
-                ramp,
+                frequency: f,
+                ramp: r,
                 backward,
                 slow,
-            } => search_numbers(frequency, ramp, backward, slow, next),
+            } => {
+                [
+                    u32::from(f),
+                    u32::from(r),
+                    bit(backward),
+                    u32::from(slow),
+                    next,
+                    0,
+                ]
+            }
             Instruction::DelayedStop {
-                frequency,
-                ramp,
-                travel,
+                frequency: f,
+                ramp: r,
+                travel: t,
                 steps,
-            } => stop_numbers(frequency, ramp, travel, steps, next),
+            } => {
+                [
+                    u32::from(f),
+                    u32::from(r),
+                    bit(t.backward()),
+                    steps.bits(),
+                    bit(t.x4()),
+                    next,
+                ]
+            }
             Instruction::CamSetting { set, position } => [bit(set), position.0, next, 0, 0, 0],
-            Instruction::OutputSetting { output, on } => [output.0 as u32, bit(on), next, 0, 0, 0],
-            Instruction::CounterReset => [next, 0, 0, 0, 0, 0],
-            Instruction::OpeningLoop { count } => [count as u32, next, 0, 0, 0, 0],
-            Instruction::ClosingLoop { jump } => [jump.0 as u32, next, 0, 0, 0, 0],
+            Instruction::OutputSetting { output, on } => {
+                [u32::from(output.0), bit(on), next, 0, 0, 0]
+            }
+            Instruction::OpeningLoop { count } => [u32::from(count), next, 0, 0, 0, 0],
+            Instruction::ClosingLoop { jump } => [u32::from(jump.0), next, 0, 0, 0, 0],
             Instruction::ConditionalJump {
                 condition,
                 on,
                 jump,
-            } => { [condition.0 as u32, bit(on), jump.0 as u32, next, 0, 0] }
+            } => {
+                [
+                    u32::from(condition.0),
+                    bit(on),
+                    u32::from(jump.0),
+                    next,
+                    0,
+                    0,
+                ]
+            }
             Instruction::TimeDelay { delay } => [delay.0, next, 0, 0, 0, 0],
-            Instruction::Recovery => [0, 0, 0, 0, 0, 0],
             Instruction::CurrentSetting { on } => [bit(on), next, 0, 0, 0, 0],
+            Instruction::CounterReset | Instruction::Null => [next, 0, 0, 0, 0, 0],
+            Instruction::Recovery => [0; 6],
         }
     }
 }
@@ -209,8 +174,7 @@ impl Cell {
     pub fn numbers(self) -> [u32; 6]
         ensures { result ≡ numbers_of self }
     {
-        let instruction = self.instruction;
-        instruction.numbers(self.next.0 as u32)
+        self.instruction.numbers(u32::from(self.next.0))
     }
 }
 
@@ -218,7 +182,7 @@ impl Cell {
 fn address(v: u32) -> CellAddress
     ensures { result ≡ address_of v }
 {
-    CellAddress((v % 256) as u8)
+    CellAddress(byte(v))
 }
 
 fn with_next(instruction: Instruction, next: u32) -> Cell
@@ -235,18 +199,14 @@ fn with_next(instruction: Instruction, next: u32) -> Cell
 fn cam(set: bool, position: u32) -> Instruction
     ensures { result ≡ cam_of set position }
 {
-    if set {
-        return Instruction::CamSetting {
-            set: true,
-            position: Position(position),
-        };
-    }
     Instruction::CamSetting {
-        set: false,
-        position: Position(0),
+        set,
+        position: Position(if set { position } else { 0 }),
     }
 }
 
+// An instruction of each code from its numbers. 01 and 31, and 02 and 32, are told apart by their
+// variants, as the definitions name them; a function that is handed the variant would be no plainer.
 fn indexed_ramp(f: u32, r: u32, n: u32, x: u32) -> Instruction
     ensures { result ≡ Instruction.IndexedRamp (byte_of f) (byte_of r) (is_one x) (steps_of n) }
 {
@@ -357,7 +317,7 @@ fn output_setting(o: u32, v: u32) -> Instruction
     ensures { result ≡ Instruction.OutputSetting (record { 0 = byte_of o }) (is_one v) }
 {
     Instruction::OutputSetting {
-        output: OutputName((o % 256) as u8),
+        output: OutputName(byte(o)),
         on: one(v),
     }
 }
@@ -366,7 +326,7 @@ fn conditional_jump(i: u32, v: u32, e: u32) -> Instruction
     ensures { result ≡ ConditionalJump (record { 0 = byte_of i }) (is_one v) (address_of e) }
 {
     Instruction::ConditionalJump {
-        condition: ConditionName((i % 256) as u8),
+        condition: ConditionName(byte(i)),
         on: one(v),
         jump: address(e),
     }
@@ -377,12 +337,7 @@ fn conditional_jump(i: u32, v: u32, e: u32) -> Instruction
 pub fn cell_of(code: u32, v: &[u32; 6]) -> Cell
     ensures { result ≡ cell_of code v.now }
 {
-    let a = v[0];
-    let b = v[1];
-    let c = v[2];
-    let d = v[3];
-    let e = v[4];
-    let f = v[5];
+    let [a, b, c, d, e, f] = *v;
     match code {
         1 => with_next(indexed_ramp(a, b, c, d), e),
         31 => with_next(indexed_ramp_fine(a, b, c, d), e),
@@ -424,14 +379,7 @@ fn in_table(v: u32) -> bool
 pub fn holds_numbers(code: u32, v: &[u32; 6]) -> bool
     ensures { result ≡ same_numbers (numbers_of (cell_of code v.now)) v.now }
 {
-    // A slice is known to have as many numbers as the array, each one of 32 bits.
-    let w: &[u32] = v;
-    let a = w[0];
-    let b = w[1];
-    let c = w[2];
-    let d = w[3];
-    let e = w[4];
-    let f = w[5];
+    let [a, b, c, d, e, f] = *v;
     // Past a row's last number there are only zeros.
     let no_f = f == 0;
     let no_e = (e == 0) & no_f;
@@ -439,10 +387,8 @@ pub fn holds_numbers(code: u32, v: &[u32; 6]) -> bool
     let no_c = (c == 0) & no_d;
     let no_b = (b == 0) & no_c;
     match code {
-        1 => (a < 256) & (b < 256) & (d < 2) & (e < 256) & no_f,
-        31 => (a < 256) & (b < 256) & (d < 2) & (e < 256) & no_f,
-        2 => (a < 256) & (b < 256) & (c < 2) & (d < 2) & (e < 256) & no_f,
-        32 => (a < 256) & (b < 256) & (c < 2) & (d < 2) & (e < 256) & no_f,
+        1 | 31 => (a < 256) & (b < 256) & (d < 2) & (e < 256) & no_f,
+        2 | 32 => (a < 256) & (b < 256) & (c < 2) & (d < 2) & (e < 256) & no_f,
         11 => (a < 256) & (c < 2) & (d < 256) & no_e,
         21 => in_table(a) & (c < 2) & (d < 256) & no_e,
         12 => (a < 256) & (b < 2) & (c < 2) & (d < 256) & no_e,
@@ -460,17 +406,4 @@ pub fn holds_numbers(code: u32, v: &[u32; 6]) -> bool
         69 => (a == 0) & no_b,
         _ => (a < 256) & no_b,
     }
-}
-
-// Whether the numbers of two cells are the same. All six are compared, with no branch.
-pub fn same_numbers(xs: [u32; 6], ys: [u32; 6]) -> bool
-    ensures { result ≡ same_numbers xs ys }
-{
-    let mut same = true;
-    let mut i: usize = 0;
-    while i < 6 {
-        same = same & (xs[i] == ys[i]);
-        i += 1;
-    }
-    same
 }

@@ -1,10 +1,9 @@
 // What a run needs of an instruction.
 ghost use Rattle.std.specs.Prelude.{◌≡◌, ◌*◌};
 ghost use Rattle.frequency.specs.Places.{hertz_of};
-ghost use Rattle.instruction.specs.Runs.{profile, profile_of, no_run};
-ghost use Rattle.instruction.specs.Runs.{indexed_run, free_run, search_run};
+ghost use Rattle.instruction.specs.Runs.{profile_of, indexed_run, free_run, search_run, stopped_run};
 
-use crate::Instruction;
+use crate::{Instruction, Travel};
 use frequency::Frequency;
 use units::Steps;
 
@@ -38,19 +37,16 @@ pub struct Profile {
     pub slow: u32,
 }
 
-fn still() -> Profile
-    ensures { result ≡ no_run }
-{
-    Profile {
-        motion: Motion::NoRun,
-        hertz: 0,
-        ramp: 0,
-        x4: false,
-        backward: false,
-        steps: Steps(0),
-        slow: 0,
-    }
-}
+// No run.
+const STILL: Profile = Profile {
+    motion: Motion::NoRun,
+    hertz: 0,
+    ramp: 0,
+    x4: false,
+    backward: false,
+    steps: Steps(0),
+    slow: 0,
+};
 
 fn indexed(hertz: u32, ramp: u8, x4: bool, steps: Steps) -> Profile
     ensures { result ≡ indexed_run hertz ramp x4 steps }
@@ -60,9 +56,8 @@ fn indexed(hertz: u32, ramp: u8, x4: bool, steps: Steps) -> Profile
         hertz,
         ramp,
         x4,
-        backward: false,
         steps,
-        slow: 0,
+        ..STILL
     }
 }
 
@@ -75,8 +70,7 @@ fn free(hertz: u32, ramp: u8, backward: bool, x4: bool) -> Profile
         ramp,
         x4,
         backward,
-        steps: Steps(0),
-        slow: 0,
+        ..STILL
     }
 }
 
@@ -87,43 +81,42 @@ fn search(hertz: u32, ramp: u8, backward: bool, slow: u32) -> Profile
         motion: Motion::SearchRun,
         hertz,
         ramp,
-        x4: false,
         backward,
-        steps: Steps(0),
         slow,
+        ..STILL
     }
 }
 
-fn stopped(hertz: u32, ramp: u8, x4: bool, backward: bool, steps: Steps) -> Profile
-    ensures { result ≡ profile Motion.DelayedStopRun hertz ramp x4 backward steps 0 }
+fn stopped(hertz: u32, ramp: u8, travel: Travel, steps: Steps) -> Profile
+    ensures { result ≡ stopped_run hertz ramp travel steps }
 {
     Profile {
         motion: Motion::DelayedStopRun,
         hertz,
         ramp,
-        x4,
-        backward,
+        x4: travel.x4(),
+        backward: travel.backward(),
         steps,
-        slow: 0,
+        ..STILL
     }
 }
 
 fn thousands(f: u8) -> u32
     ensures { result ≡ f * 1000 }
 {
-    f as u32 * 1000
+    u32::from(f) * 1000
 }
 
 fn hundreds(f: u8) -> u32
     ensures { result ≡ f * 100 }
 {
-    f as u32 * 100
+    u32::from(f) * 100
 }
 
 fn hertz(f: Frequency) -> u32
     ensures { result ≡ hertz_of f }
 {
-    f.hertz() as u32
+    u32::from(f.hertz())
 }
 
 impl Instruction {
@@ -187,25 +180,17 @@ impl Instruction {
                 ramp,
                 travel,
                 steps,
-            } => {
-                stopped(
-                    thousands(frequency),
-                    ramp,
-                    travel.x4(),
-                    travel.backward(),
-                    steps,
-                )
-            }
-            Instruction::CamSetting { .. } => still(),
-            Instruction::OutputSetting { .. } => still(),
-            Instruction::CounterReset => still(),
-            Instruction::OpeningLoop { .. } => still(),
-            Instruction::ClosingLoop { .. } => still(),
-            Instruction::ConditionalJump { .. } => still(),
-            Instruction::TimeDelay { .. } => still(),
-            Instruction::Recovery => still(),
-            Instruction::CurrentSetting { .. } => still(),
-            Instruction::Null => still(),
+            } => stopped(thousands(frequency), ramp, travel, steps),
+            Instruction::CamSetting { .. }
+            | Instruction::OutputSetting { .. }
+            | Instruction::CounterReset
+            | Instruction::OpeningLoop { .. }
+            | Instruction::ClosingLoop { .. }
+            | Instruction::ConditionalJump { .. }
+            | Instruction::TimeDelay { .. }
+            | Instruction::Recovery
+            | Instruction::CurrentSetting { .. }
+            | Instruction::Null => STILL,
         }
     }
 }

@@ -11,9 +11,10 @@ ghost use Rattle.instruction.specs.Soundness.{cell_sound, steps_within};
 
 use crate::{Cell, Instruction};
 use frequency::Frequency;
-use units::{LOOP_LIMIT, Milliseconds, Position, Steps};
+use units::{CellAddress, LOOP_LIMIT, Milliseconds, Position, Steps};
 
 // A field from low to high, of any width.
+#[tactic(auto, using(laws::proofs::Joins::and_both), unfolding(fields::specs::Kinds::valid))]
 fn between(v: u8, low: u8, high: u8) -> bool
     ensures { (w : ℕ) → result ≡ valid (Fixed w low high) v }
 {
@@ -24,10 +25,11 @@ fn between(v: u8, low: u8, high: u8) -> bool
 fn is_next(v: u8) -> bool
     ensures { result ≡ valid Next v }
 {
-    (v == 0) | between(v, 100, 230)
+    (v == 0) | between(v, CellAddress::FIRST, CellAddress::LAST)
 }
 
 // A frequency and a ramp code.
+#[tactic(auto, using(laws::proofs::Joins::and_both))]
 fn ramped(frequency: u8, low: u8, high: u8, code: u8) -> bool
     ensures { (w : ℕ) → result ≡ both (valid (Fixed w low high) frequency) (valid ramp code) }
 {
@@ -65,10 +67,9 @@ impl Cell {
     pub fn sound(self) -> bool
         ensures { result ≡ cell_sound self }
     {
-        let instruction = self.instruction;
         let next = self.next.0;
         let linked = is_next(next);
-        match instruction {
+        match self.instruction {
             Instruction::IndexedRamp {
                 frequency,
                 ramp,
@@ -117,17 +118,23 @@ impl Cell {
             } => ramped(frequency, 3, 24, ramp) & linked & counted(steps),
             Instruction::CamSetting { set, position } => linked & stored(set, position),
             Instruction::OutputSetting { output, .. } => (output.0 < 13) & linked,
-            Instruction::CounterReset => linked,
             Instruction::OpeningLoop { count } => (1 <= count) & (count <= LOOP_LIMIT) & linked,
-            Instruction::ClosingLoop { jump } => between(jump.0, 100, 230) & linked,
+            Instruction::ClosingLoop { jump } => between(
+                jump.0,
+                CellAddress::FIRST,
+                CellAddress::LAST,
+            ) & linked,
             Instruction::ConditionalJump {
                 condition,
                 jump,
                 ..
-            } => (condition.0 < 16) & between(jump.0, 100, 230) & linked,
+            } => (condition.0 < 16)
+                & between(jump.0, CellAddress::FIRST, CellAddress::LAST)
+                & linked,
             Instruction::TimeDelay { delay } => (delay.0 <= Milliseconds::DELAY_LIMIT) & linked,
-            Instruction::CurrentSetting { .. } => linked,
-            Instruction::Null => linked,
+            Instruction::CurrentSetting { .. } | Instruction::CounterReset | Instruction::Null => {
+                linked
+            }
             Instruction::Recovery => next == 0,
         }
     }

@@ -1,55 +1,24 @@
 // A cell as WN sends it and QM shows it: the text after BBB.
 ghost use Rattle.std.specs.Prelude.{◌≡◌};
 ghost use Rattle.laws.specs.Writing.{Put};
-ghost use Rattle.instruction.specs.Texts.{code_row, cell_text, sent_cell, Shown};
+ghost use Rattle.instruction.specs.Texts.{cell_text, sent_cell, Shown};
 
 use crate::{Cell, numbers};
 use fields::kinds::Kind;
 use fields::rows;
-use fields::rows::Row;
-
-// The cell that a string says, or that the string is wrong.
-#[derive(Clone, Copy)]
-pub enum Sent {
-    Held(Cell),
-    Wrong,
-}
+use format::format_of;
 
 // CC.
-fn code_row() -> Row
-    ensures { result ≡ code_row }
-{
-    Row {
-        count: 1,
-        k0: Kind::Fixed(2, 0, 99),
-        k1: Kind::Next,
-        k2: Kind::Next,
-        k3: Kind::Next,
-        k4: Kind::Next,
-        k5: Kind::Next,
-    }
-}
+const CODE: Kind = Kind::Fixed(2, 0, 99);
 
-// The cell that the text from a place on says.
-pub fn read_cell(s: &[u8], from: usize) -> Sent
+// The cell that the text from a place on says, if it says one.
+pub fn read_cell(s: &[u8], from: usize) -> Option<Cell>
     ensures { result ≡ sent_cell s.now from }
 {
-    let first = rows::parse_fields(code_row(), s, from);
-    if !first.ok {
-        return Sent::Wrong;
-    }
+    let first = rows::parse_fields(&[CODE], s, from)?;
     let code = first.values[0];
-    let format = format::format_of(code);
-    if !format.known {
-        return Sent::Wrong;
-    }
-    let row = format.row;
-    let rest = rows::parse_all(row, s, first.at);
-    if !rest.ok {
-        return Sent::Wrong;
-    }
-    let values = rest.values;
-    Sent::Held(numbers::cell_of(code, &values))
+    let rest = rows::parse_all(format_of(code)?, s, first.at)?;
+    Some(numbers::cell_of(code, &rest.values))
 }
 
 // The text of a cell, from a place on.
@@ -57,10 +26,11 @@ pub fn put_cell(buf: &mut [u8], at: usize, cell: Cell) -> usize
     requires { Shown cell at buf.old }
     ensures { Put buf.old buf.new (cell_text cell) at result }
 {
-    let instruction = cell.instruction;
-    let code = instruction.code() as u32;
-    let next = rows::put_fields(buf, at, code_row(), [code, 0, 0, 0, 0, 0]);
-    let shown = format::format_of(code);
-    let fields = shown.row;
-    rows::put_fields(buf, next, fields, cell.numbers())
+    let code = cell.instruction.code() as u32;
+    let next = rows::put_fields(buf, at, &[CODE], [code, 0, 0, 0, 0, 0]);
+    // Each instruction has a format.
+    let Some(kinds) = format_of(code) else {
+        return next;
+    };
+    rows::put_fields(buf, next, kinds, cell.numbers())
 }

@@ -12,26 +12,9 @@ impl Instruction {
         ensures { result ≡ jump_of self next }
     {
         match self {
-            Instruction::Null => next,
-            Instruction::IndexedRamp { .. } => next,
-            Instruction::IndexedRampFine { .. } => next,
-            Instruction::FreeRamp { .. } => next,
-            Instruction::FreeRampFine { .. } => next,
-            Instruction::Indexed { .. } => next,
-            Instruction::IndexedFine { .. } => next,
-            Instruction::Free { .. } => next,
-            Instruction::FreeFine { .. } => next,
-            Instruction::ZeroSearch { .. } => next,
-            Instruction::DelayedStop { .. } => next,
-            Instruction::CamSetting { .. } => next,
-            Instruction::OutputSetting { .. } => next,
-            Instruction::CounterReset => next,
-            Instruction::OpeningLoop { .. } => next,
             Instruction::ClosingLoop { jump } => jump,
             Instruction::ConditionalJump { jump, .. } => jump,
-            Instruction::TimeDelay { .. } => next,
-            Instruction::Recovery => next,
-            Instruction::CurrentSetting { .. } => next,
+            _ => next,
         }
     }
 }

@@ -10,6 +10,7 @@ use mathlib.Core.List.{List, [], ◌∷◌, ◌++◌, append_assoc}
 use lib.ListN.{length, take, drop, set, get_or, length-take, length-drop, length-append, take-append-drop}
 use lib.Seq.{length-take-le, take_all, take-take, take-length, take-append-le, drop-append-le, drop-cons, set-append_seam, append_snoc}
 use borrow.Author.Tests.{lt-ltb, le-ltb}
+use Rattle.std.specs.Prelude.{Some, None}
 use Rattle.laws.specs.Tests.{choose}
 use Rattle.laws.proofs.Tests.{lt-or-le, choose-true, choose-false}
 use Rattle.scan.specs.Bytes.{index_of, slice}
@@ -108,7 +109,7 @@ set-behind k l h =
 pub takes-ended :
     (block : List ℕ) (from : ℕ) (l : List ℕ) (n end : ℕ) (m : List ℕ) (r : ℕ) → length l ≡ 65 →
     end ≡ from + index_of 13 (slice from (length block) block) → Kept l n (take (end - from) (drop from block)) m r → end < length block →
-    Takes block from l n (set (m ++ drop 64 l) r 13) (record { next = end + 1; length = r + 1; ended = true })
+    Takes block from l n (set (m ++ drop 64 l) r 13) (record { length = r + 1; next = Some (end + 1) })
 unfolding string_after taken_of given choose
 takes-ended block from l n end m r hl he k hb = record { taken = taken; now = now }
   where
@@ -136,7 +137,7 @@ takes-ended block from l n end m r hl he k hb = record { taken = taken; now = no
     long : length (string_after (take n l) b) ≡ r + 1
     long = ap length whole ∙ length-append kept (13 ∷ []) ∙ ap (λ (i : ℕ). i + 1) (sym size)
 
-    taken : record { next = end + 1; length = r + 1; ended = true } ≡ taken_of from b (take n l)
+    taken : record { length = r + 1; next = Some (end + 1) } ≡ taken_of from b (take n l)
     taken = rw (long, stops, ← e) refl
 
     now : set (m ++ drop 64 l) r 13 ≡ string_after (take n l) b ++ drop (length (string_after (take n l) b)) l
@@ -149,7 +150,7 @@ takes-ended block from l n end m r hl he k hb = record { taken = taken; now = no
 pub takes_all :
     (block : List ℕ) (from : ℕ) (l : List ℕ) (n end : ℕ) (m : List ℕ) (r : ℕ) → from ≤ length block →
     end ≡ from + index_of 13 (slice from (length block) block) → Kept l n (take (end - from) (drop from block)) m r → length block ≤ end →
-    Takes block from l n (m ++ drop 64 l) (record { next = end; length = r; ended = false })
+    Takes block from l n (m ++ drop 64 l) (record { length = r; next = None })
 unfolding string_after taken_of choose
 takes_all block from l n end m r hf he k hb = record { taken = taken; now = now }
   where
@@ -168,8 +169,8 @@ takes_all block from l n end m r hf he k hb = record { taken = taken; now = now 
     size : r ≡ length (string_after (take n l) b)
     size = k.size ∙ ap length piece
 
-    taken : record { next = end; length = r; ended = false } ≡ taken_of from b (take n l)
-    taken = rw (← size, goes, ← e) refl
+    taken : record { length = r; next = None } ≡ taken_of from b (take n l)
+    taken = rw (← size, goes) refl
 
     now : m ++ drop 64 l ≡ string_after (take n l) b ++ drop (length (string_after (take n l) b)) l
     now = k.now ∙ ap (λ (x : List ℕ). x ++ drop (length x) l) piece

@@ -1,6 +1,6 @@
 -- 01, "Bench strings and near misses": the strings of the console's input.
 -- Assumes nothing.
-use Rattle.std.specs.Prelude.{ℕ, ◌+◌, ◌≡◌, Bool, List, [], ◌∷◌, ◌++◌, length, take, drop, ltb}
+use Rattle.std.specs.Prelude.{ℕ, ◌+◌, ◌≡◌, Bool, List, [], ◌∷◌, ◌++◌, length, take, drop, ltb, Option, Some, None}
 use Rattle.laws.specs.Tests.{choose}
 use Rattle.scan.specs.Bytes.{index_of}
 use Rattle.lines.specs.declared.strings.Taken.{Taken}
@@ -25,9 +25,8 @@ string_after s b = choose (ends b) (given (s ++ before b)) (take 64 (s ++ before
 unfoldable pub taken_of : ℕ → List ℕ → List ℕ → Taken
 taken_of from b s =
     record {
-      next = choose (ends b) (from + index_of 13 b + 1) (from + index_of 13 b);
       length = length (string_after s b);
-      ended = ends b;
+      next = choose (ends b) (Some (from + index_of 13 b + 1)) None;
     }
 
 -- of a block, from a place on: what is taken for the first n bytes of l, and l', which has the string at its front and its further bytes as they were

@@ -1,24 +1,17 @@
 // Bytes put behind each other in a lent buffer, and its front. What does not fit is cut.
-ghost use Rattle.std.specs.Prelude.{◌≡◌, min, take};
+ghost use Rattle.std.specs.Prelude.{◌≡◌, take};
 ghost use Rattle.decimal.specs.Printing.{decimal, signed};
 ghost use Rattle.lines.specs.Gathering.{Gathered, bit_text};
 
 use decimal::print::{put_decimal, put_signed};
-
-// The lesser of two.
-pub fn least(a: usize, b: usize) -> usize
-    ensures { result ≡ min a b }
-{
-    if a < b { a } else { b }
-}
 
 // Puts a piece behind the first n bytes of a line, as much of it as the line has place for, and
 // hands back how many bytes there are then.
 pub fn gather(line: &mut [u8], n: usize, piece: &[u8]) -> usize
     ensures { Gathered line.old n piece.now line.new result }
 {
-    let held = least(n, line.len());
-    let more = least(line.len() - held, piece.len());
+    let held = n.min(line.len());
+    let more = (line.len() - held).min(piece.len());
     scan::copy(&piece[..more], &mut line[held..]);
     held + more
 }
@@ -27,7 +20,7 @@ pub fn gather(line: &mut [u8], n: usize, piece: &[u8]) -> usize
 pub fn front(line: &[u8], n: usize) -> &[u8]
     ensures { result.now ≡ take n line.now }
 {
-    &line[..least(n, line.len())]
+    &line[..n.min(line.len())]
 }
 
 // Puts a number behind the first n bytes of a line.
@@ -49,11 +42,9 @@ pub fn gather_signed(line: &mut [u8], n: usize, bits: u32) -> usize
 }
 
 // The same of a bit, as a digit.
+#[tactic(auto, unfolding(crate::specs::Gathering::bit_text))]
 pub fn gather_bit(line: &mut [u8], n: usize, on: bool) -> usize
     ensures { Gathered line.old n (bit_text on) line.new result }
 {
-    if on {
-        return gather(line, n, b"1");
-    }
-    gather(line, n, b"0")
+    gather(line, n, if on { b"1" } else { b"0" })
 }

@@ -6,13 +6,12 @@ use crate::gathering::gather;
 
 const CARRIAGE_RETURN: u8 = 13;
 
-// What was taken of a block: where to go on, how many bytes the string has then, and whether its
-// byte 13 is among them.
+// What was taken of a block: how many bytes the string has then, and where to go on behind its byte
+// 13, which is none where the block ends before it.
 #[derive(Clone, Copy)]
 pub struct Taken {
-    pub next: usize,
     pub length: usize,
-    pub ended: bool,
+    pub next: Option<usize>,
 }
 
 // Takes a block's bytes from a place on, up to the first 13 or the end, behind the n bytes that
@@ -26,14 +25,9 @@ pub fn take_string(block: &[u8], from: usize, string: &mut [u8], n: usize) -> Ta
     if end < block.len() {
         string[length] = CARRIAGE_RETURN;
         return Taken {
-            next: end + 1,
             length: length + 1,
-            ended: true,
+            next: Some(end + 1),
         };
     }
-    Taken {
-        next: end,
-        length,
-        ended: false,
-    }
+    Taken { length, next: None }
 }

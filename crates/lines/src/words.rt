@@ -5,6 +5,7 @@ ghost use Rattle.scan.specs.Bytes.{index_of};
 const SPACE: u8 = 32;
 
 // How long the first word of a line is.
+#[tactic(auto, unfolding(scan::specs::Bytes::slice))]
 pub fn word_length(line: &[u8]) -> usize
     ensures { result ≡ index_of 32 line.now }
 {

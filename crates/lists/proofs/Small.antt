@@ -5,23 +5,24 @@ use native.Mathlib.Omega.{arith}
 use mathlib.Core.Path.{◌≡◌, refl, sym, ap, subst, ◌∙◌}
 use mathlib.Core.Bool.{true}
 use mathlib.Core.List.{List, [], ◌∷◌}
+use Rattle.std.specs.Prelude.{Result, Ok, Err}
 use Rattle.laws.specs.Writing.{Put}
 use Rattle.laws.proofs.Tests.{choose-true}
 use Rattle.laws.proofs.Writing.{put-none, put_as}
 use Rattle.instruction.specs.declared.Cell.{Cell}
 use Rattle.machine.specs.Soundness.{sound}
-use Rattle.machine.specs.Record.{cell_at}
+use Rattle.machine.specs.Record.{with_state, cell_at}
 use Rattle.machine.specs.Milliseconds.{present, held, millisecond_at}
 use Rattle.machine.specs.Orders.{order_at}
 use Rattle.machine.specs.Calls.{Call, Outcome, done, act, apply, next, look, after, shown, shown_at}
 use Rattle.machine.specs.Calls.Call.{Millisecond}
+use Rattle.machine.specs.Calls.Ending.{NoWait}
 use Rattle.machine.specs.Invariant.{Kept}
 use Rattle.machine.specs.declared.State.{State}
 use Rattle.machine.specs.declared.Machine.{Machine}
 use Rattle.machine.specs.declared.answers.BoardOrder.{BoardOrder}
-use Rattle.operations.specs.Results.{number_of, acted_on}
-use Rattle.operations.specs.declared.results.Acted.{Acted}
-use Rattle.operations.specs.declared.results.Refusal.TheVariants.{None}
+use Rattle.operations.specs.Results.{acted_on}
+use Rattle.operations.specs.declared.results.Refusal.{Refusal}
 use Rattle.operations.proofs.Acting.{time-at, order-at}
 use Rattle.encoding.specs.Numbers.{number_bytes}
 use Rattle.encoding.specs.Words.{room_of}
@@ -31,7 +32,7 @@ use Rattle.travel.specs.Travel.{Travels}
 use Rattle.travel.specs.declared.Travelled.{Travelled}
 use Rattle.lists.specs.Listing.{Word, word_calls, word_next, word_seen}
 use Rattle.lists.specs.Listing.Word.{Nothing, Called, Order, Travel}
-use Rattle.lists.specs.Giving.{Carries}
+use Rattle.lists.specs.Giving.{Carries, refusal_in, state_after}
 
 abbrev pub drive : List Cell → State → Machine
 drive cells s = record { state = s; cells = cells }
@@ -58,19 +59,27 @@ unseen f {h} {x} {m} {l} {a} e q = (carries-as (q ∙ sym (ap f e)) (nothing-car
 -- a millisecond, at the cells that the drive is at
 pub tick-acted :
     (cells : List Cell) (s : State) {c h : Cell} {r : State} → present cells s ≡ c → cell_at cells s.suspended.cell ≡ h → r ≡ millisecond_at s c h →
-    acted_on (drive cells s) (record { refusal = None; state = r }) ≡ act Millisecond (drive cells s)
-unfolding held act acted_on number_of
+    acted_on (drive cells s) (Ok r) ≡ act Millisecond (drive cells s)
+unfolding held act acted_on
 tick-acted cells s p q e = ap (λ (x : State). done (drive cells x)) (time-at cells s p q e)
+
+-- an event, by what is told of it and the state after it
+acted-parts :
+    (m : Machine) (x : Result State Refusal) →
+    acted_on m x ≡ record { refusal = refusal_in x; answer = []; ending = NoWait; machine = with_state m (state_after m.state x) }
+unfolding acted_on refusal_in state_after
+acted-parts m (Ok s) = refl
+acted-parts m (Err r) = refl
 
 module _ {cells : List Cell} {s r : State} {before later : List ℕ} {a e : ℕ} (k : Kept (drive cells s)) where
   -- an event, of which its refusal is seen
   pub event-carried :
-      (c : Call) (x : Acted) → call_bytes c (look c (drive cells s)) ≡ (look c (drive cells s)).refusal ∷ [] →
-      acted_on (drive cells s) x ≡ act c (drive cells s) → r ≡ x.state → Put before later (number_of x.refusal ∷ []) a e →
+      (c : Call) (x : Result State Refusal) → call_bytes c (look c (drive cells s)) ≡ (look c (drive cells s)).refusal ∷ [] →
+      acted_on (drive cells s) x ≡ act c (drive cells s) → r ≡ state_after s x → Put before later (refusal_in x ∷ []) a e →
       Carries (Called c) (drive cells s) (drive cells r) before later a e
-  unfolding word_next word_calls word_seen after next look acted_on
+  unfolding word_next word_calls word_seen after next look
   event-carried c x b q t p =
-      let o : acted_on (drive cells s) x ≡ apply c (drive cells s) = q ∙ sym (applied c (drive cells s) k.sound) in
+      let o = sym (acted-parts (drive cells s) x) ∙ q ∙ sym (applied c (drive cells s) k.sound) in
       record {
         machine = ap (drive cells) t ∙ ap (λ (y : Outcome). y.machine) o;
         bytes = put_as (ap (λ (y : Outcome). y.refusal ∷ []) o ∙ sym b) p;

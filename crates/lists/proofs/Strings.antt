@@ -9,26 +9,25 @@ use lib.Dec.{ltb}
 use lib.ListN.{length, set, take, drop, replicate, length-append, length-drop, length-replicate}
 use lib.Seq.{sets, set_comm, length-take-le}
 use borrow.Author.Tests.{lt-ltb, le-ltb}
+use Rattle.std.specs.Prelude.{Option, Some, None, Result, Ok, Err, IsOk}
 use Rattle.laws.specs.Writing.{Put}
 use Rattle.laws.proofs.Tests.{choose-true, choose-false}
 use Rattle.laws.proofs.Writing.{put_as}
-use Rattle.machine.specs.Record.{with_state}
 use Rattle.machine.specs.Soundness.{sound}
 use Rattle.machine.specs.Calls.{Outcome, Shown, refused, act, apply, next, look, after}
 use Rattle.machine.specs.Calls.Call.{SendString, Wait}
 use Rattle.machine.specs.Operations.{filled}
 use Rattle.machine.specs.declared.Machine.{Machine}
-use Rattle.operations.specs.Results.{number_of, Answering, shown_during, ending_as, passed_on}
-use Rattle.operations.specs.declared.results.Answered.{Answered}
+use Rattle.operations.specs.Results.{number_of, told_length, heard_as, Answering, shown_during, ending_as, waited_as}
 use Rattle.operations.specs.declared.results.Ending.{Ending}
-use Rattle.operations.specs.declared.results.Ending.TheVariants.{NoWait, Ended}
-use Rattle.operations.specs.declared.results.Passed.{Passed}
+use Rattle.operations.specs.declared.results.Refusal.{Refusal}
+use Rattle.operations.specs.declared.results.Refusal.TheVariants.{AddressAbove47, Unsound, ShortBuffer, WordAbove2047, NoRunUnderWay, ReportOutOfPlace, BudgetOutOfRange}
 use Rattle.lines.proofs.Lending.{put-part}
 use Rattle.encoding.specs.Numbers.{number_bytes}
 use Rattle.encoding.specs.Words.{size_of}
 use Rattle.encoding.specs.declared.Head.{Head}
 use Rattle.encoding.specs.declared.Head.TheVariants.{Text}
-use Rattle.seen.specs.Bytes.{ending_bytes, call_bytes}
+use Rattle.seen.specs.Bytes.{ending_bytes, ended_as, call_bytes}
 use Rattle.lists.specs.Listing.{string_of, whole_word, word_calls, word_next, word_seen}
 use Rattle.lists.specs.Listing.Word.{Called}
 use Rattle.lists.specs.Giving.{Carries}
@@ -36,32 +35,28 @@ use Rattle.lists.proofs.Small.{applied, carries-as}
 
 -- ---- waits
 
--- the bytes of an end do not tell what was shown meanwhile
-ending-bytes : (e : Ending) (x y : List Shown) → ending_bytes (ending_as e x) ≡ ending_bytes (ending_as e y)
-unfolding ending_bytes ending_as
-ending-bytes NoWait x y = refl
-ending-bytes (Ended end given) x y = refl
-
 -- an end has five bytes
-pub ending-length : (e : Ending) → length (ending_bytes (ending_as e [])) ≡ 5
-unfolding ending_bytes ending_as number_bytes
-ending-length NoWait = refl
-ending-length (Ended end given) = refl
+pub ending-length : (e : Option Ending) → length (ending_bytes (ended_as e)) ≡ 5
+unfolding ending_bytes ending_as ended_as number_bytes
+ending-length None = refl
+ending-length (Some e) = refl
 
-pub wait-carried :
-    (n : ℕ) (m : Machine) (p : Passed) {m' : Machine} {before later : List ℕ} {a e : ℕ} → sound m ≡ true → passed_on m n p ≡ act (Wait n) m →
-    m' ≡ with_state m p.state → Put before later (number_of p.refusal ∷ ending_bytes (ending_as p.ending [])) a e →
-    Carries (Called (Wait n)) m m' before later a e
-unfolding word_next word_calls word_seen after next look call_bytes passed_on
-wait-carried n m p t q w b =
-    let o : passed_on m n p ≡ apply (Wait n) m = q ∙ sym (applied (Wait n) m t) in
-    record {
-      machine = w ∙ ap (λ (y : Outcome). y.machine) o;
-      bytes = put_as
-          (ap (λ (l : List ℕ). number_of p.refusal ∷ l) (ending-bytes p.ending [] (shown_during n m))
-          ∙ ap (λ (y : Outcome). y.refusal ∷ ending_bytes y.ending) o)
-          b;
-    }
+module _
+    (n : ℕ) (m : Machine) {r : Result Ending Refusal} {m' : Machine} {before later : List ℕ} {a e : ℕ} (t : sound m ≡ true)
+    (q : waited_as r m' (shown_during n m) ≡ act (Wait n) m)
+  where
+    -- the bytes of an end do not tell what was shown meanwhile
+    pub wait-taken : {x : Ending} → r ≡ Ok x → Put before later (0 ∷ ending_bytes (ended_as (Some x))) a e → Carries (Called (Wait n)) m m' before later a e
+    unfolding word_next word_calls word_seen after next look call_bytes waited_as ending_bytes ending_as ended_as
+    wait-taken f b =
+        let o = ap (λ (z : Result Ending Refusal). waited_as z m' (shown_during n m)) (sym f) ∙ q ∙ sym (applied (Wait n) m t) in
+        record { machine = ap (λ (y : Outcome). y.machine) o; bytes = put_as (ap (λ (y : Outcome). y.refusal ∷ ending_bytes y.ending) o) b }
+
+    pub wait-refused : {x : Refusal} → r ≡ Err x → Put before later (number_of x ∷ ending_bytes (ended_as None)) a e → Carries (Called (Wait n)) m m' before later a e
+    unfolding word_next word_calls word_seen after next look call_bytes waited_as ended_as
+    wait-refused f b =
+        let o = ap (λ (z : Result Ending Refusal). waited_as z m' (shown_during n m)) (sym f) ∙ q ∙ sym (applied (Wait n) m t) in
+        record { machine = ap (λ (y : Outcome). y.machine) o; bytes = put_as (ap (λ (y : Outcome). y.refusal ∷ ending_bytes y.ending) o) b }
 
 -- ---- strings
 
@@ -112,10 +107,26 @@ string-put {l} {mid} {later} {p} {r} {n} {a} {b} {e} w q t =
           ∙ ap (λ (k : ℕ). sets (set (set l a r) (suc a) n) k p) u;
     }
 
+-- each refusal has a number
+refusal-some : (r : Refusal) → 1 ≤ number_of r
+unfolding number_of
+refusal-some AddressAbove47 = omega arith
+refusal-some Unsound = omega arith
+refusal-some ShortBuffer = omega arith
+refusal-some WordAbove2047 = omega arith
+refusal-some NoRunUnderWay = omega arith
+refusal-some ReportOutOfPlace = omega arith
+refusal-some BudgetOutOfRange = omega arith
+
+heard-ok : (x : Result ℕ Refusal) (next : Machine) (answer : List ℕ) → (heard_as x next answer).refusal ≡ 0 → IsOk x
+unfolding heard_as
+heard-ok (Ok n) next answer e = refl
+heard-ok (Err r) next answer e = absurd (omega (arith, e, refusal-some r))
+
 -- what `operations::signals::string` hands back of a part of 64 bytes, which is lent from the place after the two bytes on
-module _ (text l ys : List ℕ) (room a k : ℕ) (m : Machine) {x : Answered} (hl : a + 66 ≤ length l) (hk : k ≡ 64) (hr : 64 ≤ room) (t : sound m ≡ true)
-    (n : length ys ≡ length (take k (drop (a + 2) l)))
-    (v : Answering x (take k (drop (a + 2) l)) ys (act (SendString text (take k (drop (a + 2) l))) m)) where
+module _ (text l ys : List ℕ) (room a k : ℕ) (m next : Machine) {x : Result ℕ Refusal} (hl : a + 66 ≤ length l) (hk : k ≡ 64) (hr : 64 ≤ room)
+    (t : sound m ≡ true) (n : length ys ≡ length (take k (drop (a + 2) l)))
+    (v : Answering x next (take k (drop (a + 2) l)) ys (act (SendString text (take k (drop (a + 2) l))) m)) where
   abbrev part : List ℕ
   part = take k (drop (a + 2) l)
 
@@ -125,26 +136,36 @@ module _ (text l ys : List ℕ) (room a k : ℕ) (m : Machine) {x : Answered} (h
   lent : act (SendString text part) m ≡ act (SendString text (replicate room 0)) m
   lent = long-alike text part (replicate room 0) m (rw size) (rw (length-replicate {A = ℕ} room 0) (le-ltb _ _ hr))
 
-  pub answer-short : x.length ≤ 64
-  answer-short =
+  pub answer-short : {c : ℕ} → x ≡ Ok c → c ≤ 64
+  unfolding told_length
+  answer-short {c} f =
       let w = answer-within (act (SendString text part) m).answer part ys n v.bytes in
-      omega (arith, v.count, w, size)
+      let count : c ≡ length (act (SendString text part) m).answer = ap told_length (sym f) ∙ v.count in
+      omega (arith, count, w, size)
+
+  -- 64 bytes are enough
+  pub not-refused : IsOk x
+  unfolding act
+  not-refused = heard-ok x next _ (ap (λ (y : Outcome). y.refusal) (v.outcome ∙ choose-false _ _ _ (rw size)))
 
   pub string-carried :
-      {later : List ℕ} {e : ℕ} → later ≡ set (set (take (a + 2) l ++ (ys ++ drop k (drop (a + 2) l))) a (number_of x.refusal)) (a + 1) x.length →
-      e ≡ a + 2 + x.length → Carries (Called (SendString text (replicate room 0))) m x.machine l later a e
-  unfolding word_next word_calls word_seen after next look call_bytes filled
-  string-carried {later} {e} q s =
+      {later : List ℕ} {e c : ℕ} → x ≡ Ok c → later ≡ set (set (take (a + 2) l ++ (ys ++ drop k (drop (a + 2) l))) a 0) (a + 1) c → e ≡ a + 2 + c →
+      Carries (Called (SendString text (replicate room 0))) m next l later a e
+  unfolding word_next word_calls word_seen after next look call_bytes filled told_length heard_as
+  string-carried {later} {e} {c} f q s =
+      let answer = (act (SendString text part) m).answer in
       let o : act (SendString text part) m ≡ apply (SendString text (replicate room 0)) m = lent ∙ sym (applied _ m t) in
-      let w = answer-within (act (SendString text part) m).answer part ys n v.bytes in
-      let p = put-part l (a + 2) k (act (SendString text part) m).answer ys (omega arith) (omega (arith, w, size, hk)) v.bytes in
+      let w = answer-within answer part ys n v.bytes in
+      let p = put-part l (a + 2) k answer ys (omega arith) (omega (arith, w, size, hk)) v.bytes in
+      let count : c ≡ length answer = ap told_length (sym f) ∙ v.count in
+      let heard = ap (λ (z : Result ℕ Refusal). heard_as z next answer) (sym f) ∙ v.outcome in
       record {
-        machine = ap (λ (y : Outcome). y.machine) (v.outcome ∙ o);
+        machine = ap (λ (y : Outcome). y.machine) (heard ∙ o);
         bytes = put_as
-            (ap (λ (i : ℕ). number_of x.refusal ∷ i ∷ (act (SendString text part) m).answer) v.count
-            ∙ ap (λ (y : Outcome). y.refusal ∷ length (act (SendString text part) m).answer ∷ (act (SendString text part) m).answer) v.outcome
+            (ap (λ (i : ℕ). 0 ∷ i ∷ answer) count
+            ∙ ap (λ (y : Outcome). y.refusal ∷ length answer ∷ answer) heard
             ∙ ap (λ (y : Outcome). y.refusal ∷ length y.answer ∷ y.answer) o)
-            (string-put p q (s ∙ ap (λ (i : ℕ). a + 2 + i) v.count));
+            (string-put p q (s ∙ ap (λ (i : ℕ). a + 2 + i) count));
       }
 
 -- the text is what the word has behind its four bytes

@@ -15,7 +15,7 @@ use Rattle.machine.specs.declared.Machine.{Machine}
 use Rattle.encoding.specs.Words.{head_of, size_of, room_of}
 use Rattle.encoding.specs.Refusing.{refusal_from, refusal_of}
 use Rattle.encoding.specs.declared.Head.{Head}
-use Rattle.encoding.specs.declared.Refusal.TheVariants.{None}
+use Rattle.std.specs.Prelude.{Ok}
 use Rattle.encoding.proofs.Turns.{part_left, Whole, word-whole}
 use Rattle.lists.specs.Listing.{Word, small_word, whole_word, word_of, words_from, words_of, word_calls, word_next, word_seen, calls_of, bytes_of}
 use Rattle.lists.specs.Giving.{Carries, is_whole}
@@ -34,13 +34,13 @@ pub record Carrying (list before later : List ℕ) (m₀ m : Machine) (at writte
   pub kept : Kept m
   pub same : length later ≡ length before
   pub room : written + left ≤ length later
-  pub checked : refusal_from 0 left (drop at list) ≡ None
+  pub checked : refusal_from 0 left (drop at list) ≡ Ok tt
   pub drive : after (calls_of (words_from 0 (drop at list)) m) m ≡ after (calls_of (words_of list) m₀) m₀
   pub bytes : sets later written (bytes_of (words_from 0 (drop at list)) m) ≡ sets before 0 (bytes_of (words_of list) m₀)
   pub count : written + length (bytes_of (words_from 0 (drop at list)) m) ≡ length (bytes_of (words_of list) m₀)
 
 pub carrying-start :
-    (list before : List ℕ) (m : Machine) → Kept m → refusal_of (length before) list ≡ None → Carrying list before before m m 0 0
+    (list before : List ℕ) (m : Machine) → Kept m → refusal_of (length before) list ≡ Ok tt → Carrying list before before m m 0 0
 unfolding refusal_of words_of
 carrying-start list before m k e =
     record { left = length before; within = omega arith; kept = k; same = refl; room = omega arith; checked = e; drive = refl; bytes = refl; count = omega arith }

@@ -22,7 +22,7 @@ use Rattle.encoding.specs.Words.{head_with, head_of, size_of, room_of}
 use Rattle.encoding.specs.Refusing.{refusal_from, refusal_of}
 use Rattle.encoding.specs.declared.Head.{Head}
 use Rattle.encoding.specs.declared.Head.TheVariants as head
-use Rattle.encoding.specs.declared.Refusal.TheVariants.{None}
+use Rattle.std.specs.Prelude.{Ok}
 use Rattle.encoding.proofs.Places.{pair-after, number-after}
 use Rattle.encoding.proofs.Turns.{part_left, checked-start, passed}
 use Rattle.seen.specs.Bytes.{call_bytes}
@@ -194,7 +194,7 @@ lists-seen [] m t = refl
 lists-seen (c ∷ cs) m t =
     bytes-call c (encode cs) (both_left _ _ t) m ∙ ap (λ (x : List ℕ). call_bytes c (look c m) ++ x) (lists-seen cs (next c m) (both_right _ _ t))
 
-lists-taken : (cs : List Call) (space : ℕ) → every fits cs ≡ true → room_needed cs ≤ space → refusal_of space (encode cs) ≡ None
+lists-taken : (cs : List Call) (space : ℕ) → every fits cs ≡ true → room_needed cs ≤ space → refusal_of space (encode cs) ≡ Ok tt
 unfolding every encode room_needed refusal_of refusal_from
 lists-taken [] space t p = refl
 lists-taken (c ∷ cs) space t p =

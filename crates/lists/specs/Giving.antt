@@ -1,8 +1,11 @@
 -- What the function of each word promises: the next drive, and what is seen of it, put into a buffer.
 -- Assumes nothing.
-use Rattle.std.specs.Prelude.{ℕ, ◌≡◌, Bool, true, false, List, length}
+use Rattle.std.specs.Prelude.{ℕ, ◌≡◌, Bool, true, false, List, length, Result, Ok, Err}
 use Rattle.laws.specs.Writing.{Put}
+use Rattle.machine.specs.declared.State.{State}
 use Rattle.machine.specs.declared.Machine.{Machine}
+use Rattle.operations.specs.Results.{number_of}
+use Rattle.operations.specs.declared.results.Refusal.{Refusal}
 use Rattle.encoding.specs.declared.Head.{Head}
 use Rattle.encoding.specs.declared.Head.TheVariants.{NoWord, Text, Inputs, Millisecond, Step, AtSpeed, Halted, Wait, Order, Travel}
 use Rattle.lists.specs.Listing.{Word, word_next, word_seen}
@@ -24,3 +27,12 @@ is_whole Halted = false
 is_whole (Wait n) = true
 is_whole Order = false
 is_whole (Travel n) = false
+
+-- the refusal's number of an event, 0 where it is taken; and the state after it
+unfoldable pub refusal_in : Result State Refusal → ℕ
+refusal_in (Ok s) = 0
+refusal_in (Err r) = number_of r
+
+unfoldable pub state_after : State → Result State Refusal → State
+state_after s (Ok next) = next
+state_after s (Err r) = s

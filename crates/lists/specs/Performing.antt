@@ -1,7 +1,7 @@
 -- A list of calls carried out whole: the drive after all of them, and what is seen at the front of the buffer; or a refusal, the drive as it came and
 -- the buffer untouched.
 -- Assumes nothing.
-use Rattle.std.specs.Prelude.{ℕ, List, eqb, length}
+use Rattle.std.specs.Prelude.{ℕ, List, length, Result, Ok, Err}
 use Rattle.laws.specs.Tests.{choose}
 use Rattle.machine.specs.Soundness.{sound}
 use Rattle.machine.specs.Calls.{after}
@@ -11,7 +11,6 @@ use Rattle.encoding.specs.Refusing.{number_of, refusal_of}
 use Rattle.encoding.specs.declared.Refusal.{Refusal}
 use Rattle.encoding.specs.declared.Refusal.TheVariants.{Unsound}
 use Rattle.lists.specs.Listing.{words_of, calls_of, bytes_of}
-use Rattle.lists.specs.declared.Performed.{Performed}
 
 -- a refusal or 0, how many bytes are seen, the whole buffer afterwards, and the next drive
 pub record Performance : Type 0 where
@@ -32,15 +31,17 @@ carried_out list buffer m =
       machine = after (calls_of (words_of list) m) m;
     }
 
+-- what is wrong with a list, or carrying it out
+unfoldable pub checked_whole : Result (Unit {0}) Refusal → List ℕ → List ℕ → Machine → Performance
+checked_whole (Ok u) list buffer m = carried_out list buffer m
+checked_whole (Err r) list buffer m = refused_whole r buffer m
+
 -- 01: "2, drive unsound", before all else; then what is wrong with the list
 unfoldable pub performed : List ℕ → List ℕ → Machine → Performance
 performed list buffer m =
-    choose (sound m)
-    (choose (eqb (number_of (refusal_of (length buffer) list)) 0) (carried_out list buffer m)
-    (refused_whole (refusal_of (length buffer) list) buffer m))
-    (refused_whole Unsound buffer m)
+    choose (sound m) (checked_whole (refusal_of (length buffer) list) list buffer m) (refused_whole Unsound buffer m)
 
--- what the program hands back, and the buffer as it is then
-unfoldable pub performed_as : Performed → List ℕ → Performance
-performed_as r buffer =
-    record { refusal = number_of r.refusal; count = r.length; buffer = buffer; machine = r.drive.machine }
+-- what the program hands back, with the buffer and the drive as they are then
+unfoldable pub performed_as : Result ℕ Refusal → List ℕ → Machine → Performance
+performed_as (Ok n) buffer m = record { refusal = 0; count = n; buffer = buffer; machine = m }
+performed_as (Err r) buffer m = refused_whole r buffer m

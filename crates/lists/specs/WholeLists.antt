@@ -1,6 +1,6 @@
 -- Calls written as the words of a list come to what the calls come to one by one: the drive after them, and what is seen of each.
 -- Assumes nothing.
-use Rattle.std.specs.Prelude.{ℕ, ◌+◌, ◌≤◌, ◌≡◌, Bool, true, List, [], ◌∷◌, ◌++◌, ltb, length}
+use Rattle.std.specs.Prelude.{ℕ, ◌+◌, ◌≤◌, ◌≡◌, Bool, true, List, [], ◌∷◌, ◌++◌, ltb, length, Ok}
 use Rattle.laws.specs.Tests.{both}
 use Rattle.laws.specs.Tables.{every}
 use Rattle.machine.specs.Calls.{Call, Seen, after, seen}
@@ -8,7 +8,6 @@ use Rattle.machine.specs.Calls.Call.{SendString, SetInputs, Millisecond, Step, A
 use Rattle.machine.specs.declared.Machine.{Machine}
 use Rattle.encoding.specs.Numbers.{pair_bytes, number_bytes}
 use Rattle.encoding.specs.Refusing.{refusal_of}
-use Rattle.encoding.specs.declared.Refusal.TheVariants.{None}
 use Rattle.seen.specs.Bytes.{call_bytes}
 use Rattle.lists.specs.Listing.{words_of, calls_of, bytes_of}
 
@@ -61,4 +60,4 @@ pub record WholeLists : Type 0 where
   pub performs :
       (cs : List Call) (m : Machine) → every fits cs ≡ true →
       (after (calls_of (words_of (encode cs)) m) m ≡ after cs m) × (bytes_of (words_of (encode cs)) m ≡ told cs (seen cs m))
-  pub taken : (cs : List Call) (space : ℕ) → every fits cs ≡ true → room_needed cs ≤ space → refusal_of space (encode cs) ≡ None
+  pub taken : (cs : List Call) (space : ℕ) → every fits cs ≡ true → room_needed cs ≤ space → refusal_of space (encode cs) ≡ Ok tt

@@ -1,8 +1,7 @@
 // The words of a list, one after another.
-ghost use Rattle.std.specs.Prelude.{◌≡◌, true, ◌≤◌, length};
+ghost use Rattle.std.specs.Prelude.{◌≡◌, true, Ok, ◌≤◌, length};
 ghost use Rattle.machine.specs.Soundness.{sound as sound_of};
 ghost use Rattle.encoding.specs.Refusing.{refusal_of};
-ghost use Rattle.encoding.specs.declared.Refusal.TheVariants.{None};
 ghost use Rattle.laws.specs.Writing.{Put};
 ghost use Rattle.machine.specs.Calls.{after};
 ghost use Rattle.lists.specs.Listing.{words_of, calls_of, bytes_of};
@@ -19,10 +18,11 @@ pub struct Carried {
     pub written: usize,
 }
 
-// Carries out a list that was checked. The drive is sound.
+// Carries out a list that was checked. The drive is sound. It comes by value: the proof needs the
+// lengths of its arrays, which are not known of a record behind a `&mut`.
 pub fn carry(machine: Machine, list: &[u8], buffer: &mut [u8]) -> Carried
     requires machine_value { sound_of machine ≡ true }
-    requires list_value { refusal_of (length buffer.old) list.now ≡ None }
+    requires list_value { refusal_of (length buffer.old) list.now ≡ Ok tt }
     ensures machine_value_2 { result.machine ≡ after (calls_of (words_of list.now) machine) machine }
     ensures bytes { Put buffer.old buffer.new
         (bytes_of (words_of list.now) machine) 0 result.written }
@@ -31,22 +31,18 @@ pub fn carry(machine: Machine, list: &[u8], buffer: &mut [u8]) -> Carried
     let mut machine = machine;
     let mut at = 0;
     let mut written = 0;
+    // Each word says itself where the next one begins, so no range counts them.
     while at < list.len() {
         let head = head_of(&list[at..]);
         let size = head.size();
         if is_whole(head) {
-            let told = tell(machine, head, &list[at..at + size], buffer, written);
-            machine = told.machine;
-            written = told.written;
+            written = tell(&mut machine, head, &list[at..at + size], buffer, written);
         } else {
             let i = machine.state.running.cell.place();
             let cell = machine.cells[i];
             let j = machine.state.suspended.cell.place();
             let held = machine.cells[j];
-            let given = give(head, machine.state, cell, held, buffer, written);
-            let state = given.state;
-            machine.state = state;
-            written = given.written;
+            written = give(head, &mut machine.state, cell, held, buffer, written);
         }
         at += size;
     }

@@ -15,44 +15,18 @@ mod giving;
 mod telling;
 pub mod theorems;
 
-// How many bytes at the front of the buffer tell what is seen, and the next drive; or a refusal of
-// the whole list, and the drive as it came.
-#[derive(Clone, Copy)]
-pub struct Performed {
-    pub refusal: Refusal,
-    pub length: usize,
-    pub drive: Drive,
-}
-
-// Carries out a list of calls, each refused as it would be alone. An unsound drive, a list that is
-// malformed and a buffer that has not room for all that can be seen are refused whole.
-pub fn perform(drive: Drive, list: &[u8], buffer: &mut [u8]) -> Performed
-    ensures { performed_as result buffer.new ≡
-        performed list.now buffer.old drive.machine }
+// Carries out a list of calls, each refused as it would be alone: how many bytes at the front of the
+// buffer tell what is seen. An unsound drive, a list that is malformed and a buffer that has not room
+// for all that can be seen are refused whole, and the drive and the buffer stay as they came.
+pub fn perform(drive: &mut Drive, list: &[u8], buffer: &mut [u8]) -> Result<usize, Refusal>
+    ensures { performed_as result buffer.new drive.new.machine ≡
+        performed list.now buffer.old drive.old.machine }
 {
-    let machine = drive.machine;
-    if !sound(machine) {
-        return Performed {
-            refusal: Refusal::Unsound,
-            length: 0,
-            drive,
-        };
+    if !sound(drive.machine) {
+        return Err(Refusal::Unsound);
     }
-    let refusal = check(list, buffer.len());
-    if refusal.number() != 0 {
-        return Performed {
-            refusal,
-            length: 0,
-            drive,
-        };
-    }
-    let carried = carrying::carry(machine, list, buffer);
-    let next = carried.machine;
-    let length = carried.written;
-    let after = Drive { machine: next };
-    Performed {
-        refusal: Refusal::None,
-        length,
-        drive: after,
-    }
+    check(list, buffer.len())?;
+    let carried = carrying::carry(drive.machine, list, buffer);
+    drive.machine = carried.machine;
+    Ok(carried.written)
 }

@@ -163,9 +163,9 @@ unfolding cell_sound
 run_sound c t = run_in c.instruction c.next.0 (both_left _ _ t) (both_right _ _ t)
 
 -- 01: "n is ±nnn within 8,388,607 each way"
-pub steps-within : (c : Cell) → cell_sound c ≡ true → steps_within (profile_of c.instruction).steps ≡ true
+pub steps_within_run : (c : Cell) → cell_sound c ≡ true → steps_within (profile_of c.instruction).steps ≡ true
 unfolding steps_within
-steps-within c t = le-leb _ step_limit (run_sound c t).small
+steps_within_run c t = le-leb _ step_limit (run_sound c t).small
 
 -- ---- what the other codes hold
 

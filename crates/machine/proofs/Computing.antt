@@ -66,7 +66,7 @@ unfoldable pub heard : Unit {0}
 unfolding machine-Answers.preset_value machine-Answers.preset_text machine-Answers.position_text machine-Answers.input_text
     machine-Answers.output_value machine-Answers.output_text machine-Answers.memory_text machine-Answers.cam_text machine-Answers.fault_text
     machine-Answers.remaining_bits machine-Answers.suspended_text machine-Answers.answer_of machine-Answers.accepted machine-Answers.rejected
-    machine-Commands.code_in machine-Commands.on_fields machine-Commands.on_all machine-Commands.on_sent machine-Commands.store_in
+    machine-Commands.code_in machine-Commands.on_parsed machine-Commands.on_fields machine-Commands.on_all machine-Commands.on_sent machine-Commands.store_in
     machine-Commands.preset_kind machine-Commands.preset_in machine-Commands.cam_with machine-Commands.cam_in machine-Commands.command_of
     machine-Record.cell_at machine-Record.stored_at machine-Record.fresh machine-Record.idle machine-Record.moving machine-Strings.carried_out
     machine-Strings.ended machine-Strings.body_of machine-Strings.is_digit machine-Strings.addressed machine-Strings.is_stop machine-Strings.free

@@ -10,11 +10,11 @@ use mathlib.Core.List.{List}
 use lib.Dec.{leb, ltb, eqb}
 use lib.ListN.{length, get_or}
 use borrow.Author.Tests.{ltb-true, ltb-false, le-leb, lt-leb, lt-ltb, le-ltb, eq-eqb, ne_eqb}
+use Rattle.std.specs.Prelude.{Ok, Err}
 use Rattle.laws.specs.Tests.{choose, both, either}
 use Rattle.laws.proofs.Tests.{choose-by, choose-true, choose-false, choose-map}
 use Rattle.instruction.specs.declared.Cell.{Cell}
 use Rattle.frequency.specs.Rounding.{Greatest, round_of, rounded_of}
-use Rattle.frequency.specs.declared.Rounded.TheVariants.{Value, Refused}
 use Rattle.frequency.proofs.Formula.{round-greatest}
 use Rattle.machine.specs.Record.{fresh, moving}
 use Rattle.machine.specs.Soundness.{sound}
@@ -75,14 +75,14 @@ fresh-made : (a : ℕ) → a ≤ 47 → (m : Machine) × ((made a ≡ Drive m) �
 unfolding made
 fresh-made a h = (fresh (record { 0 = a }), (choose-false _ _ _ (le-ltb 47 a h), invariant.begins a h))
 
-no-frequency : (f : ℕ) → (f ≡ 0) ⊎ (4800 < f) → rounded_of f ≡ Refused 7
+no-frequency : (f : ℕ) → (f ≡ 0) ⊎ (4800 < f) → rounded_of f ≡ Err 7
 unfolding rounded_of
 no-frequency f h =
     ⊎_elim (λ e. choose-true _ _ _ (eq-eqb f 0 e))
     (λ l. choose-false _ _ _ (ne_eqb f 0 (λ e. omega arith)) ∙ choose-true _ _ _ (lt-ltb 4800 f l)) h
 
 -- 01: "is stored as the greatest table value not above it"
-pub frequency-rounded : (f : ℕ) → 1 ≤ f → f ≤ 4800 → (rounded_of f ≡ Value (round_of f)) × Greatest f (round_of f)
+pub frequency-rounded : (f : ℕ) → 1 ≤ f → f ≤ 4800 → (rounded_of f ≡ Ok (round_of f)) × Greatest f (round_of f)
 unfolding rounded_of
 frequency-rounded f l h = (
   choose-false _ _ _ (ne_eqb f 0 (λ e. omega arith)) ∙ choose-false _ _ _ (le-ltb 4800 f h),

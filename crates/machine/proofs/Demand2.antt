@@ -28,7 +28,7 @@ use Rattle.instruction.proofs.Values.{keeps-byte}
 use Rattle.instruction.proofs.Sending.{text-injective}
 use Rattle.machine.specs.Record.{cell_at, null_cell, idle, input_at, in_ee, with_state}
 use Rattle.machine.specs.Starting.{started}
-use Rattle.machine.specs.Commands.{code_in, is_code, on_fields, on_all, command_by, command_of}
+use Rattle.machine.specs.Commands.{code_in, is_code, on_parsed, on_fields, on_all, command_by, command_of}
 use Rattle.machine.specs.Answers.{answer_of}
 use Rattle.machine.specs.Acting.{acted_at, cells_after, machine_after}
 use Rattle.machine.specs.Strings.{Heard, is_start, allowed, carried_out, told}
@@ -66,7 +66,7 @@ shown-cell m k c g i h s e =
 -- ---- PS
 
 start-parsed : (x y k : ℕ) → k < 131 → command_of (x ∷ y ∷ 80 ∷ 83 ∷ place_field k) ≡ Start (address_at k)
-unfolding command_of command_by is_code code_in pair_of bytes choose on_all on_fields
+unfolding command_of command_by is_code code_in pair_of bytes choose on_all on_parsed on_fields
 start-parsed x y k h =
     rw (all_back (cell ∷ []) ((100 + k) ∷ []) (x ∷ y ∷ 80 ∷ 83 ∷ []) cell-good (cell-valid k h) refl)
     (ap (λ (a : ℕ). Start (record { 0 = a })) (keeps-byte (100 + k) (omega arith)))

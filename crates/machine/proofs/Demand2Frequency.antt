@@ -11,16 +11,16 @@ use Rattle.laws.specs.Tests.{choose, both, either}
 use Rattle.laws.specs.Tables.{every}
 use Rattle.laws.proofs.Tests.{both_true, choose-by}
 use Rattle.decimal.specs.Printing.{digits}
-use Rattle.decimal.specs.declared.parse.Number.{Number}
-use Rattle.decimal.specs.declared.parse.Number.TheVariants.{Value, Bad}
+use Rattle.std.specs.declared.option.Option.{Option}
+use Rattle.std.specs.declared.option.Option.TheVariants.{Some, None}
 use Rattle.fields.specs.Reader.{field_at, Ends}
 use Rattle.fields.specs.Kinds.{parse_field, print_field, good, valid}
-use Rattle.fields.specs.Rows.{refusal, on_field, on_value, part, fields_from, parse_fields, ended, parse_all, print_fields, all_good, all_valid}
+use Rattle.fields.specs.Rows.{parsed, on_field, on_value, part, fields_from, parse_fields, ended, parse_all, print_fields, all_good, all_valid}
 use Rattle.fields.specs.declared.kinds.Kind.{Kind}
 use Rattle.fields.specs.declared.reader.Extent.{Extent}
-use Rattle.fields.specs.declared.reader.Extent.TheVariants.{Field, Missing}
 use Rattle.fields.specs.declared.rows.Parsed.{Parsed}
 use Rattle.fields.proofs.RoundTrip.{fields_back}
+use Rattle.fields.proofs.Validity.{on_field-by, on_value-by}
 use Rattle.fields.proofs.Bounds.{between-valid}
 use Rattle.units.specs.declared.CellAddress.{CellAddress}
 use Rattle.frequency.specs.Places.{hertz_of, place_of}
@@ -32,9 +32,6 @@ use Rattle.instruction.specs.Numbers.{numbers_with, cell_with, cell_of}
 use Rattle.instruction.specs.Runs.{profile_of}
 use Rattle.instruction.specs.Texts.{code_kind, cell_text, sent_fields, sent_cell}
 use Rattle.instruction.specs.declared.Cell.{Cell as Content}
-use Rattle.instruction.specs.declared.text.Sent.{Sent}
-use Rattle.instruction.specs.declared.text.Sent.TheVariants.{Held}
-use Rattle.instruction.specs.declared.text.Sent.TheVariants as sent
 use Rattle.machine.specs.Record.{cell_at}
 use Rattle.machine.specs.Commands.{on_sent, command_of}
 use Rattle.machine.specs.Milliseconds.{present}
@@ -56,69 +53,70 @@ use Rattle.machine.proofs.Demand2Rows.{code-sent, print-first}
 
 -- ---- the first value of a row
 
-field-by : (P : Parsed → Type 0) (x : Extent) {f : ℕ → ℕ → Parsed} → ((start end : ℕ) → P (f start end)) → P refusal → P (on_field x f)
-field-by P (Field start end) p q = p start end
-field-by P Missing p q = q
+-- the first value, where there is one
+first_in : Option Parsed → ℕ
+first_in (Some p) = get_or p.values 0 0
+first_in None = 0
 
-value-by : (P : Parsed → Type 0) (x : Number) {f : ℕ → Parsed} → ((v : ℕ) → P (f v)) → P refusal → P (on_value x f)
-value-by P (Value v) p q = p v
-value-by P Bad p q = q
-
--- the first value, where all fields are right
-First : ℕ → Parsed → Type 0
-First x p = p.ok ≡ true → get_or p.values 0 0 ≡ x
-
-none : (x : ℕ) → First x refusal
-unfolding First
-none x t = clash t
+-- the first value, where all fields are right, is a number
+First : ℕ → Option Parsed → Type 0
+First x (Some p) = get_or p.values 0 0 ≡ x
+First x None = Unit {0}
 
 -- later fields leave it
 later_first :
     (ks : List Kind) (s : List ℕ) (at i x : ℕ) (vs : List ℕ) → First x (fields_from ks s at (suc i) (x ∷ vs))
 unfolding First fields_from
-later_first [] s at i x vs = λ t. refl
+later_first [] s at i x vs = refl
 later_first (k ∷ ks) s at i x vs =
-    field-by (First x) (field_at s at)
-    (λ start end. value-by (First x) (parse_field k (part s start end)) (λ v. later_first ks s end (suc i) x (set vs i v)) (none x)) (none x)
+    on_field-by (First x) (field_at s at)
+    (λ start end. on_value-by (First x) (parse_field k (part s start end)) (λ v e. later_first ks s end (suc i) x (set vs i v)) tt) tt
 
 -- so it is the value of the first field alone
-abbrev alone : List ℕ → ℕ → ℕ → Parsed
-alone vs end v = record { ok = true; at = end; values = v ∷ vs }
+abbrev alone : List ℕ → ℕ → ℕ → Option Parsed
+alone vs end v = parsed end (v ∷ vs)
 
-abbrev first : List Kind → List ℕ → List ℕ → ℕ → ℕ → Parsed
+abbrev first : List Kind → List ℕ → List ℕ → ℕ → ℕ → Option Parsed
 first ks s vs end v = fields_from ks s end 1 (v ∷ vs)
 
 first-number :
-    (ks : List Kind) (s vs : List ℕ) (n : Number) (end : ℕ) →
-    First (get_or (on_value n (alone vs end)).values 0 0) (on_value n (first ks s vs end))
-first-number ks s vs (Value v) end = later_first ks s end 0 v vs
-first-number ks s vs Bad end = none _
+    (ks : List Kind) (s vs : List ℕ) (n : Option ℕ) (end : ℕ) →
+    First (first_in (on_value n (alone vs end))) (on_value n (first ks s vs end))
+unfolding First first_in
+first-number ks s vs (Some v) end = later_first ks s end 0 v vs
+first-number ks s vs None end = tt
 
 first_field :
-    (k : Kind) (ks : List Kind) (s vs : List ℕ) (x : Extent) →
-    First (get_or (on_field x (λ start end. on_value (parse_field k (part s start end)) (alone vs end))).values 0 0)
+    (k : Kind) (ks : List Kind) (s vs : List ℕ) (x : Option Extent) →
+    First (first_in (on_field x (λ start end. on_value (parse_field k (part s start end)) (alone vs end))))
     (on_field x (λ start end. on_value (parse_field k (part s start end)) (first ks s vs end)))
-first_field k ks s vs (Field start end) = first-number ks s vs (parse_field k (part s start end)) end
-first_field k ks s vs Missing = none _
+unfolding First
+first_field k ks s vs (Some e) = first-number ks s vs (parse_field k (part s e.start e.end)) e.end
+first_field k ks s vs None = tt
 
 first-value :
-    (k : Kind) (ks : List Kind) (s : List ℕ) (from : ℕ) → First (get_or (parse_fields (k ∷ []) s from).values 0 0) (parse_fields (k ∷ ks) s from)
+    (k : Kind) (ks : List Kind) (s : List ℕ) (from : ℕ) → First (first_in (parse_fields (k ∷ []) s from)) (parse_fields (k ∷ ks) s from)
 unfolding parse_fields fields_from
 first-value k ks s from = first_field k ks s _ (field_at s from)
 
+ended_first : (x : ℕ) (s : List ℕ) (y : Option Parsed) → First x y → First x (ended s y)
+unfolding First ended
+ended_first x s (Some p) h = choose-by (First x) _ (λ t. tt) (λ t. h)
+ended_first x s None h = tt
+
 all_first : (x : ℕ) (ks : List Kind) (s : List ℕ) (from : ℕ) → First x (parse_fields ks s from) → First x (parse_all ks s from)
-unfolding parse_all ended
-all_first x ks s from h = choose-by (First x) _ (λ t. none x) (λ t. h)
+unfolding parse_all
+all_first x ks s from h = ended_first x s (parse_fields ks s from) h
 
 -- FFFF, sent as the first field after the code
 hertz-first :
     (ks : List Kind) (f : ℕ) (pre rest : List ℕ) → 1 ≤ f → f ≤ 4800 →
     First f (parse_all (hertz ∷ ks) (pre ++ (print_fields (hertz ∷ []) (f ∷ []) ++ (44 ∷ rest))) (length pre))
-unfolding all_good every good all_valid valid both Ends
+unfolding all_good every good all_valid valid both Ends first_in
 hertz-first ks f pre rest l h =
     let s = pre ++ (print_fields (hertz ∷ []) (f ∷ []) ++ (44 ∷ rest)) in
     let v : all_valid (hertz ∷ []) (f ∷ []) ≡ true = both_true (between-valid 1 4800 f l h) refl in
-    let e = ap (λ (p : Parsed). get_or p.values 0 0) (fields_back (hertz ∷ []) (f ∷ []) pre (44 ∷ rest) refl v refl refl) in
+    let e = ap first_in (fields_back (hertz ∷ []) (f ∷ []) pre (44 ∷ rest) refl v refl refl) in
     all_first f (hertz ∷ ks) s (length pre)
     (subst (λ (x : ℕ). First x (parse_fields (hertz ∷ ks) s (length pre))) e (first-value hertz ks s (length pre)))
 
@@ -142,16 +140,15 @@ fine-cell code vs =
 -- ---- the string
 
 -- what is stored is what was sent
-sent-held : (a b : CellAddress) (x : Sent) (d : Content) → on_sent a x ≡ Store b d → (a ≡ b) × (x ≡ Held d)
+sent-held : (a b : CellAddress) (x : Option Content) (d : Content) → on_sent a x ≡ Store b d → (a ≡ b) × (x ≡ Some d)
 unfolding on_sent
-sent-held a b (Held c) d e = (cc, cc)
-sent-held a b sent.Wrong d e = let z : ◌≡◌ {A = ℕ} 0 1 = cc in absurd (omega arith)
+sent-held a b (Some c) d e = (cc, cc)
+sent-held a b None d e = let z : ◌≡◌ {A = ℕ} 0 1 = cc in absurd (omega arith)
 
-fields-held : (code : ℕ) (p : Parsed) (d : Content) → sent_fields code p ≡ Held d → (p.ok ≡ true) × (cell_of code p.values ≡ d)
+fields-held : (code : ℕ) (x : Option Parsed) (d : Content) → sent_fields code x ≡ Some d → (p : Parsed) × ((x ≡ Some p) × (cell_of code p.values ≡ d))
 unfolding sent_fields
-fields-held code p d =
-    choose-by (λ (x : Sent). x ≡ Held d → (p.ok ≡ true) × (cell_of code p.values ≡ d)) p.ok (λ t e. (t, cc))
-    (λ t e. let z : ◌≡◌ {A = ℕ} 0 1 = cc in absurd (omega arith))
+fields-held code (Some p) d e = (p, (refl, cc))
+fields-held code None d e = let z : ◌≡◌ {A = ℕ} 0 1 = cc in absurd (omega arith)
 
 fine-known : (code : ℕ) → FineCode code → known code ≡ true
 unfolding known known_in either
@@ -183,8 +180,9 @@ fine-says x y k code f rest b d h c l u e =
     let r = parse_all (fields_of code) ((pre ++ p) ++ q) (length (pre ++ p)) in
     let row = fields-held code r d
     (sym (ap (λ (t : List ℕ). sent_cell (pre ++ t) (length pre)) split ∙ code-sent code q pre (fine-known code c) refl) ∙ held.1) in
-    let first = fine-first code f (pre ++ p) rest c l u row.0 in
-    (held.0, subst (FineCell code f) row.1 (subst (λ (n : ℕ). FineCell code n (cell_of code r.values)) first (fine-cell code r.values c)))
+    let vs = row.0.values in
+    let first = subst (First f) row.1.0 (fine-first code f (pre ++ p) rest c l u) in
+    (held.0, subst (FineCell code f) row.1.1 (subst (λ (n : ℕ). FineCell code n (cell_of code vs)) first (fine-cell code vs c)))
 
 -- 01: "Hz × m": the order of a run has the Hz of its cell
 run-hertz :

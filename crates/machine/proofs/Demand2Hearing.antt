@@ -9,6 +9,8 @@ use mathlib.Core.List.{List, [], nil≢cons}
 use lib.Dec.{ltb}
 use lib.ListN.{length, get_or}
 use borrow.Author.Tests.{eqb-true}
+use Rattle.std.specs.declared.option.Option.{Option}
+use Rattle.std.specs.declared.option.Option.TheVariants.{Some, None}
 use Rattle.laws.specs.Tests.{both, either}
 use Rattle.laws.specs.Text.{bytes}
 use Rattle.laws.proofs.Tests.{both_left, both_right, choose-by, choose-false}
@@ -18,9 +20,6 @@ use Rattle.units.specs.declared.CellAddress.{CellAddress}
 use Rattle.units.specs.declared.DriveAddress.{DriveAddress}
 use Rattle.instruction.specs.Soundness.{cell_sound}
 use Rattle.instruction.specs.declared.Cell.{Cell as Content}
-use Rattle.instruction.specs.declared.text.Sent.{Sent}
-use Rattle.instruction.specs.declared.text.Sent.TheVariants.{Held}
-use Rattle.instruction.specs.declared.text.Sent.TheVariants as sent
 use Rattle.machine.specs.Record.{idle}
 use Rattle.machine.specs.Commands.{code_in, is_code, on_all, on_sent, store_in, preset_in, cam_with, cam_in, command_by, command_of}
 use Rattle.machine.specs.Answers.{answer_of, accepted, rejected, answer_at}
@@ -36,7 +35,7 @@ use Rattle.machine.specs.declared.commands.Command.{Command}
 use Rattle.machine.specs.declared.commands.Command.TheVariants.{Store, Wrong}
 use Rattle.machine.proofs.Tests.{clash, by-test, either_first, second}
 use Rattle.machine.proofs.Cells.{cell-from, cell-to}
-use Rattle.machine.proofs.Ranges.{Fine, on-fields, command-fine}
+use Rattle.machine.proofs.Ranges.{Fine, on-parsed, on-fields, command-fine}
 use Rattle.machine.proofs.Hearing.{allowed-by}
 use Rattle.machine.proofs.Addressing.{digits-front}
 use Rattle.machine.proofs.WritingBack.{store-read}
@@ -52,13 +51,13 @@ wrong-leaves aa m = refl
 
 on-all : (s : List ℕ) (ks : List Kind) (f : List ℕ → Command) → ((vs : List ℕ) → Leaves (f vs)) → Leaves (on_all ks s f)
 unfolding on_all
-on-all s ks f p = on-fields Leaves _ f (λ t. p _) wrong-leaves
+on-all s ks f p = on-fields Leaves _ f (λ q e. p q.values) wrong-leaves
 
 other-leaves : (s : List ℕ) → is_code "WN" (code_in s) ≡ false → Leaves (command_of s)
 unfolding Leaves command_of command_by preset_in cam_in cam_with carried_out machine_after cells_after
 other-leaves s w =
     choose-by Leaves _ (λ t. clash (sym w ∙ t)) (λ t.
-    choose-by Leaves _ (λ t. on-fields Leaves _ _ (λ u. on-fields Leaves _ _ (λ v aa m. refl) wrong-leaves) wrong-leaves) (λ t.
+    choose-by Leaves _ (λ t. on-parsed Leaves _ _ (λ p e. on-fields Leaves _ _ (λ q d aa m. refl) wrong-leaves) wrong-leaves) (λ t.
     choose-by Leaves _ (λ t. on-all s _ _ (λ vs aa m. refl)) (λ t.
     choose-by Leaves _ (λ t. on-all s _ _ (λ vs aa m. refl)) (λ t.
     choose-by Leaves _ (λ t. on-all s _ _ (λ vs aa m. refl)) (λ t.
@@ -99,14 +98,14 @@ told-leaves b m w =
 abbrev Said : Command → Type 0
 Said c = (c ≡ Wrong) ⊎ ((a : CellAddress) × ((d : Content) × (c ≡ Store a d)))
 
-on-sent : (a : CellAddress) (x : Sent) → Said (on_sent a x)
+on-sent : (a : CellAddress) (x : Option Content) → Said (on_sent a x)
 unfolding on_sent
-on-sent a (Held d) = inr (a, (d, refl))
-on-sent a sent.Wrong = inl refl
+on-sent a (Some d) = inr (a, (d, refl))
+on-sent a None = inl refl
 
 store-says : (s : List ℕ) → is_code "WN" (code_in s) ≡ true → Said (command_of s)
 unfolding store_in
-store-says s h = subst Said (sym (store-read s h)) (on-fields Said _ _ (λ t. on-sent _ _) (inl refl))
+store-says s h = subst Said (sym (store-read s h)) (on-parsed Said _ _ (λ p t. on-sent _ _) (inl refl))
 
 -- the drive after a WN
 abbrev pub stored : Machine → CellAddress → Content → Machine

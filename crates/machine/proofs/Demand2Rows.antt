@@ -9,6 +9,8 @@ use lib.Dec.{leb}
 use lib.ListN.{length, replicate, length-append}
 use lib.Seq.{sets}
 use borrow.Author.Tests.{leb-true, le-ltb}
+use Rattle.std.specs.declared.option.Option.{Option}
+use Rattle.std.specs.declared.option.Option.TheVariants.{Some, None}
 use Rattle.laws.specs.Tests.{choose, both}
 use Rattle.laws.specs.Tables.{every}
 use Rattle.laws.specs.Text.{bytes}
@@ -23,7 +25,6 @@ use Rattle.fields.proofs.Lengths.{fields-most}
 use Rattle.format.specs.Formats.{cell, fields_of, known}
 use Rattle.instruction.specs.Numbers.{cell_of}
 use Rattle.instruction.specs.Texts.{code_kind, sent_fields, sent_code, sent_cell}
-use Rattle.instruction.specs.declared.text.Sent.TheVariants as sent
 use Rattle.format.proofs.Entries.{fields-by, formats-good, known_by}
 use Rattle.instruction.proofs.Sending.{good-code}
 use Rattle.machine.specs.Record.{idle}
@@ -55,7 +56,7 @@ unfolding sent_cell sent_code
 code-sent code q pre h e =
     let p = print_fields (code_kind ∷ []) (code ∷ []) in
     ap (sent_code (pre ++ (p ++ q))) (fields_back (code_kind ∷ []) (code ∷ []) pre q good-code (known-digits code h) refl e)
-    ∙ choose-true (both true (known code)) _ sent.Wrong (both_true refl h)
+    ∙ choose-true (known code) _ None h
     ∙ ap (λ (x : List ℕ). sent_fields code (parse_all (fields_of code) x (length pre + length p))) (sym (append_assoc pre p q))
     ∙ ap (λ (n : ℕ). sent_fields code (parse_all (fields_of code) ((pre ++ p) ++ q) n)) (sym (length-append pre p))
 

@@ -10,6 +10,8 @@ use lib.Dec.{lit≤}
 use lib.ListN.{length, get_or, set, replicate, length-append}
 use lib.Seq.{get_or-set_same}
 use borrow.Author.Tests.{leb-true, ltb-true, lt-ltb, le-ltb}
+use Rattle.std.specs.Prelude.{is_some}
+use Rattle.std.specs.declared.option.Option.{Option}
 use Rattle.laws.specs.Tests.{choose, both}
 use Rattle.laws.specs.Tables.{every}
 use Rattle.laws.specs.Text.{bytes}
@@ -18,7 +20,7 @@ use Rattle.decimal.specs.Printing.{digits}
 use Rattle.decimal.specs.Parsing.{value_from, number_of, fixed_of, within}
 use Rattle.fields.specs.Names.{pair_of, listed, list_of}
 use Rattle.fields.specs.Kinds.{parse_field, letters_of, print_field, good_signed, good, valid, most}
-use Rattle.fields.specs.Rows.{refusal, on_field, on_value, part, fields_from, parse_fields, ended, parse_all, print_fields, all_good, all_valid, most_all}
+use Rattle.fields.specs.Rows.{on_field, on_value, part, fields_from, parse_fields, ended, parse_all, print_fields, all_good, all_valid, most_all}
 use Rattle.fields.specs.declared.kinds.Kind.{Kind}
 use Rattle.fields.specs.declared.kinds.Kind.TheVariants.{Fixed, Optional, Name}
 use Rattle.fields.specs.declared.names.Names.TheVariants.{Settable, Outputs, Presets}
@@ -32,7 +34,7 @@ use Rattle.format.specs.Formats.{bit}
 use Rattle.instruction.specs.Numbers.{is_one, bit_of}
 use Rattle.instruction.proofs.Values.{keeps-byte, keeps-bit}
 use Rattle.machine.specs.Record.{no_cam, with_state, with_presets, with_position, with_cam, with_output, idle}
-use Rattle.machine.specs.Commands.{any_signed, fields_at, code_in, is_code, on_fields, on_all, preset_kind, resolution_at, preset_with, preset_in, cam_with, cam_in, command_by, command_of}
+use Rattle.machine.specs.Commands.{any_signed, fields_at, code_in, is_code, on_parsed, on_fields, on_all, preset_kind, resolution_at, preset_with, preset_in, cam_with, cam_in, command_by, command_of}
 use Rattle.machine.specs.Answers.{resolution_place, preset_value, preset_text, position_text, output_value, output_text, cam_text, answer_of, accepted, answer_at}
 use Rattle.machine.specs.Acting.{preset_set, acted_at, cells_after, machine_after}
 use Rattle.machine.specs.Strings.{Heard, heard, is_start, allowed, carried_out, told}
@@ -87,7 +89,7 @@ setting = tt
 -- ---- SA
 
 position-parsed : (a b p : ℕ) → valid any_signed p ≡ true → command_of (a ∷ b ∷ 83 ∷ 65 ∷ print_fields (any_signed ∷ []) (p ∷ [])) ≡ SetPosition p
-unfolding command_of command_by is_code code_in pair_of bytes choose on_all on_fields all_good every good good_signed both all_valid valid
+unfolding command_of command_by is_code code_in pair_of bytes choose on_all on_parsed on_fields all_good every good good_signed both all_valid valid
     print_fields print_field
 position-parsed a b p v =
     rw (all_back (Optional (2 ^ 31) (2 ^ 31 - 1) ∷ []) (p ∷ []) (a ∷ b ∷ 83 ∷ 65 ∷ []) refl (both_true v refl) refl) refl
@@ -125,7 +127,7 @@ output-fields k v h = ap (λ (n : ℕ). 44 ∷ (letters_of n ++ (44 ∷ (digits 
 output-parsed :
     (a b k v : ℕ) → k < 13 → valid bit v ≡ true →
     command_of (a ∷ b ∷ 83 ∷ 79 ∷ print_fields (Name Settable ∷ bit ∷ []) (k ∷ v ∷ [])) ≡ SetOutput k (is_one v)
-unfolding command_of command_by is_code code_in pair_of bytes choose on_all on_fields all_good every good both all_valid valid list_of listed
+unfolding command_of command_by is_code code_in pair_of bytes choose on_all on_parsed on_fields all_good every good both all_valid valid list_of listed
 output-parsed a b k v h t =
     rw (all_back (Name Settable ∷ bit ∷ []) (k ∷ v ∷ []) (a ∷ b ∷ 83 ∷ 79 ∷ []) refl (both_true (lt-ltb k 13 h) (both_true t refl)) refl)
     (ap (λ (o : ℕ). SetOutput o (is_one v)) (keeps-byte k (omega arith)))
@@ -159,26 +161,21 @@ outputs-repeat m g i k v h t =
 -- ---- SC
 
 -- a 1 is no 0 that ends the string
-no_end : (s : List ℕ) → (ended s refusal).ok ≡ false
-unfolding ended
-no_end s = choose-by (λ (p : Parsed). p.ok ≡ false) _ (λ t. refl) (λ t. refl)
-
 no_zero :
-    (a b p : ℕ) → (parse_all (Fixed 1 0 0 ∷ []) (a ∷ b ∷ 83 ∷ 67 ∷ print_fields (bit ∷ any_signed ∷ []) (1 ∷ p ∷ [])) fields_at).ok ≡ false
-unfolding parse_all parse_fields fields_from parse_field fixed_of number_of value_from within choose both print_fields print_field digits valid
+    (a b p : ℕ) → is_some (parse_all (Fixed 1 0 0 ∷ []) (a ∷ b ∷ 83 ∷ 67 ∷ print_fields (bit ∷ any_signed ∷ []) (1 ∷ p ∷ [])) fields_at) ≡ false
+unfolding ended parse_all parse_fields fields_from parse_field fixed_of number_of value_from within choose both print_fields print_field digits valid
 no_zero a b p =
     let rest = print_fields (any_signed ∷ []) (p ∷ []) in
     let s = a ∷ b ∷ 83 ∷ 67 ∷ print_fields (bit ∷ any_signed ∷ []) (1 ∷ p ∷ []) in
     ap
-    (λ (x : Extent).
-    (ended s
-    (on_field x (λ start end. on_value (parse_field (Fixed 1 0 0) (part s start end)) (λ v. fields_from [] s end 1 (set (replicate 6 0) 0 v))))).ok)
+    (λ (x : Option Extent).
+    is_some (ended s
+    (on_field x (λ start end. on_value (parse_field (Fixed 1 0 0) (part s start end)) (λ v. fields_from [] s end 1 (set (replicate 6 0) 0 v))))))
     (field_at-plain (a ∷ b ∷ 83 ∷ 67 ∷ []) (print_field bit 1) rest (plain-field bit 1 refl) (ends-print (any_signed ∷ []) (p ∷ [])))
-    ∙ no_end s
 
 cam-parsed :
     (a b p : ℕ) → valid any_signed p ≡ true → command_of (a ∷ b ∷ 83 ∷ 67 ∷ print_fields (bit ∷ any_signed ∷ []) (1 ∷ p ∷ [])) ≡ SetCam true p
-unfolding command_of command_by is_code code_in pair_of bytes choose cam_in on_all on_fields cam_with all_good every good good_signed both all_valid valid
+unfolding command_of command_by is_code code_in pair_of bytes choose cam_in on_all on_parsed on_fields cam_with all_good every good good_signed both all_valid valid
 cam-parsed a b p v =
     choose-false _ _ _ (no_zero a b p)
     ∙ rw (all_back (bit ∷ any_signed ∷ []) (1 ∷ p ∷ []) (a ∷ b ∷ 83 ∷ 67 ∷ []) refl (both_true refl (both_true v refl)) refl) refl
@@ -186,7 +183,7 @@ cam-parsed a b p v =
 no-cam-parsed : (a b : ℕ) → command_of (a ∷ b ∷ 83 ∷ 67 ∷ print_fields (bit ∷ []) (0 ∷ [])) ≡ SetCam false 0
 unfolding command_of command_by is_code code_in pair_of bytes choose cam_in all_good every good both all_valid valid print_fields print_field
 no-cam-parsed a b =
-    choose-true _ _ _ (ap (λ (p : Parsed). p.ok) (all_back (Fixed 1 0 0 ∷ []) (0 ∷ []) (a ∷ b ∷ 83 ∷ 67 ∷ []) refl refl refl))
+    choose-true _ _ _ (ap is_some (all_back (Fixed 1 0 0 ∷ []) (0 ∷ []) (a ∷ b ∷ 83 ∷ 67 ∷ []) refl refl refl))
 
 pub cam-repeat :
     (m : Machine) → Good m → idle m.state ≡ true → (p : ℕ) → valid any_signed p ≡ true →
@@ -223,7 +220,7 @@ no-cam-repeat m g i =
 preset-parsed :
     (a b k v : ℕ) → k < 5 → valid (preset_kind k) v ≡ true →
     command_of (a ∷ b ∷ 87 ∷ 83 ∷ print_fields (Name Presets ∷ preset_kind k ∷ []) (k ∷ v ∷ [])) ≡ SetPreset (preset_with k v)
-unfolding command_of command_by is_code code_in pair_of bytes choose preset_in on_fields all_good every good both all_valid valid list_of listed
+unfolding command_of command_by is_code code_in pair_of bytes choose preset_in on_parsed on_fields all_good every good both all_valid valid list_of listed
 preset-parsed a b k v h t =
     let front = a ∷ b ∷ 87 ∷ 83 ∷ [] in
     let name = print_fields (Name Presets ∷ []) (k ∷ []) in
@@ -236,7 +233,7 @@ preset-parsed a b k v h t =
     ap (λ (l : List ℕ). command_of (a ∷ b ∷ 87 ∷ 83 ∷ l)) (print-first (Name Presets) k (preset_kind k ∷ []) (v ∷ []))
     ∙ ap (preset_in s)
     (fields_back (Name Presets ∷ []) (k ∷ []) front value refl (both_true (lt-ltb k 5 h) refl) refl (ends-print (preset_kind k ∷ []) (v ∷ [])))
-    ∙ ap (λ (p : Parsed). on_fields p (λ vs. SetPreset (preset_with k (get_or vs 0 0)))) row
+    ∙ ap (λ (x : Option Parsed). on_fields x (λ vs. SetPreset (preset_with k (get_or vs 0 0)))) row
 
 -- each of the eight values of RS stands at its place
 resolution-at : (v : ℕ) → v < 8 → resolution_place (resolution_at v) ≡ v

@@ -2,7 +2,7 @@
 -- Assumes nothing.
 use Prim.Native.Nat.{ℕ, ◌+◌, ◌≤◌}
 use native.Mathlib.Omega.{arith}
-use mathlib.Core.Path.{◌≡◌, refl, ap, sym, ◌∙◌, subst}
+use mathlib.Core.Path.{◌≡◌, refl, ap, sym, ◌∙◌}
 use mathlib.Core.Bool.{true}
 use mathlib.Core.List.{List, [], ◌++◌, append-nil}
 use lib.Dec.{eqb}
@@ -14,17 +14,17 @@ use Rattle.laws.specs.Tables.{every}
 use Rattle.laws.proofs.Tests.{both_left, both_right, both_true, choose-by, choose-true}
 use Rattle.fields.specs.Kinds.{valid}
 use Rattle.fields.specs.Rows.{all_valid}
-use Rattle.fields.specs.declared.rows.Parsed.{Parsed}
+use Rattle.std.specs.Prelude.{Option, Some, None}
 use Rattle.format.specs.Formats.{fields_of, fields_in, codes}
 use Rattle.instruction.specs.Codes.{code_of}
 use Rattle.instruction.specs.Numbers.{numbers_with}
 use Rattle.instruction.specs.Soundness.{canonical, cell_sound}
 use Rattle.instruction.specs.declared.Cell.{Cell}
 use Rattle.instruction.proofs.Numbering.{same-numbers, numbers-same}
-use Rattle.packed.specs.Rows.{row_bytes, read_row}
+use Rattle.packed.specs.Rows.{row, row_bytes, read_row}
 use Rattle.packed.specs.Cells.{cells_bytes, ReadCells, cells_from}
-use Rattle.packed.specs.Cells.ReadCells.{NoCells, Cells}
-use Rattle.packed.proofs.RoundTrip.{row_back, RowStands, row-stands}
+use Rattle.packed.specs.declared.rows.Row.{Row}
+use Rattle.packed.proofs.RoundTrip.{row_back, row-stands}
 use Rattle.packed.proofs.CellRoundTrip.{cells-back, cells-stand}
 use Rattle.machine.specs.Record.{null_cell}
 use Rattle.machine.specs.Soundness.{presets_sound, position_sound, cam_sound, fault_sound, suspended_sound, is_nothing, resting_sound, running_sound, state_sound, sound}
@@ -70,28 +70,27 @@ preset_bytes p = row_bytes preset_kinds (preset_numbers p)
 
 presets-read :
     (p : Presets) (rest : List ℕ) → presets_sound p ≡ true →
-    read_row preset_kinds (preset_bytes p ++ rest) 0 ≡ record { ok = true; at = length (preset_bytes p); values = preset_numbers p }
+    read_row preset_kinds (preset_bytes p ++ rest) 0 ≡ row (preset_numbers p) (length (preset_bytes p))
 unfolding preset_numbers
 presets-read p rest h =
     row_back preset_kinds (preset_numbers p) [] rest kinds-good (numbers-valid p h) (omega arith) (omega arith)
-    ∙ ap (λ (a : ℕ). record { ok = true; at = a; values = preset_numbers p }) (omega arith)
+    ∙ ap (row (preset_numbers p)) (omega arith)
 
 cells-read :
     (cs : List Cell) (pre : List ℕ) → length cs ≡ 128 → every cell_sound cs ≡ true →
-    cells_from codes 128 (pre ++ cells_bytes cs) (length pre) 0 (replicate 131 null_cell) ≡ Cells (memory cs) (length (pre ++ cells_bytes cs))
+    cells_from codes 128 (pre ++ cells_bytes cs) (length pre) 0 (replicate 131 null_cell) ≡ Some (memory cs, length (pre ++ cells_bytes cs))
 cells-read cs pre e t =
     let fresh = replicate 131 null_cell in
     let b = cells_bytes cs in
     ap (λ (n : ℕ). cells_from codes n (pre ++ b) (length pre) 0 fresh) (sym e)
     ∙ ap (λ (x : List ℕ). cells_from codes (length cs) (pre ++ x) (length pre) 0 fresh) (sym (append-nil b))
     ∙ cells-back cs pre [] 0 fresh t
-    ∙ ap (λ (l : List Cell). Cells l (length pre + length b)) (sets-cells cs e)
-    ∙ ap (Cells (memory cs)) (sym (length-append pre b))
+    ∙ ap (λ (l : List Cell). Some (l, length pre + length b)) (sets-cells cs e)
+    ∙ ap (λ (n : ℕ). Some (memory cs, n)) (sym (length-append pre b))
 
-own-presets : (p : Presets) (at : ℕ) → presets_sound p ≡ true → holds_presets (record { ok = true; at = at; values = preset_numbers p }) ≡ true
+own-presets : (p : Presets) → presets_sound p ≡ true → holds_presets (preset_numbers p) ≡ true
 unfolding holds_presets
-own-presets p at h =
-    both_true refl (rw (presets-back p h) (same-numbers (preset_numbers p)))
+own-presets p h = rw (presets-back p h) (same-numbers (preset_numbers p))
 
 -- presets and cells, as bytes, give the drive that is so filled
 pub bytes_back :
@@ -101,9 +100,9 @@ unfolding loaded_by loaded_after loaded_with
 bytes_back p cs h e t =
     let s = preset_bytes p ++ cells_bytes cs in
     ap (loaded_after codes sound s) (presets-read p (cells_bytes cs) h)
-    ∙ choose-true _ _ _ (own-presets p (length (preset_bytes p)) h)
+    ∙ choose-true _ _ _ (own-presets p h)
     ∙ ap (loaded_with sound s (presets_from (preset_numbers p))) (cells-read cs (preset_bytes p) e t)
-    ∙ ap (λ (q : Presets). loaded_with sound s q (Cells (memory cs) (length s))) (presets-back p h)
+    ∙ ap (λ (q : Presets). loaded_with sound s q (Some (memory cs, length s))) (presets-back p h)
     ∙ choose-true _ _ _ (both_true (eq-eqb (length s) (length s) refl) (filled-sound p cs h t))
 
 -- ---- what is read was written
@@ -119,16 +118,16 @@ pub record Restores (s : List ℕ) (m : Machine) : Type 0 where
   pub bytes : preset_bytes presets ++ cells_bytes cells ≡ s
 
 restores :
-    (s : List ℕ) (m : Machine) (p : Parsed) (cells : List Cell) (at : ℕ) → read_row preset_kinds s 0 ≡ p → holds_presets p ≡ true →
-    cells_from codes 128 s p.at 0 (replicate 131 null_cell) ≡ Cells cells at → at ≡ length s → sound (fresh_with (presets_from p.values) cells) ≡ true →
+    (s : List ℕ) (m : Machine) (p : Row) (cells : List Cell) (at : ℕ) → read_row preset_kinds s 0 ≡ Some p → holds_presets p.values ≡ true →
+    cells_from codes 128 s p.next 0 (replicate 131 null_cell) ≡ Some (cells, at) → at ≡ length s → sound (fresh_with (presets_from p.values) cells) ≡ true →
     fresh_with (presets_from p.values) cells ≡ m → Restores s m
 unfolding holds_presets sound state_sound fresh_with
 restores s m p cells at r t c e g d =
-    let row = subst (RowStands preset_kinds s 0) r (row-stands preset_kinds s 0 (omega arith) (ap (λ (q : Parsed). q.ok) r ∙ both_left _ _ t)) in
-    let found = cells-stand 128 s p.at 0 (replicate 131 null_cell) cells at c in
+    let row = row-stands preset_kinds s 0 p (omega arith) r in
+    let found = cells-stand 128 s p.next 0 (replicate 131 null_cell) cells at c in
     let q = presets_from p.values in
     let cs = found.ws in
-    let own : preset_numbers q ≡ p.values = numbers-same _ _ (both_right _ _ t) in
+    let own : preset_numbers q ≡ p.values = numbers-same _ _ t in
     let stored : cells ≡ memory cs = found.stored ∙ sets-cells cs found.many in
     let long : length s ≤ at = omega (arith, e) in
     let over : drop at s ≡ [] = drop_of_length-le s long in
@@ -147,11 +146,11 @@ restores s m p cells at r t c e g d =
     }
 
 restores-cells :
-    (s : List ℕ) (m : Machine) (p : Parsed) → read_row preset_kinds s 0 ≡ p → holds_presets p ≡ true → (r : ReadCells) →
-    cells_from codes 128 s p.at 0 (replicate 131 null_cell) ≡ r → loaded_with sound s (presets_from p.values) r ≡ Drive m → Restores s m
+    (s : List ℕ) (m : Machine) (p : Row) → read_row preset_kinds s 0 ≡ Some p → holds_presets p.values ≡ true → (r : ReadCells) →
+    cells_from codes 128 s p.next 0 (replicate 131 null_cell) ≡ r → loaded_with sound s (presets_from p.values) r ≡ Drive m → Restores s m
 unfolding loaded_with
-restores-cells s m p e t NoCells c d = let z : ◌≡◌ {A = ℕ} 0 1 = cc in absurd (omega arith)
-restores-cells s m p e t (Cells cells at) c d =
+restores-cells s m p e t None c d = absurd (cc)
+restores-cells s m p e t (Some (cells, at)) c d =
     choose-by (λ (x : Made). x ≡ Drive m → Restores s m) (both (eqb at (length s)) (sound (fresh_with (presets_from p.values) cells)))
     (λ u v. let same : fresh_with (presets_from p.values) cells ≡ m = cc in
     restores s m p cells at e t c (eqb-true at (length s) (both_left _ _ u)) (both_right _ _ u) same)
@@ -159,7 +158,10 @@ restores-cells s m p e t (Cells cells at) c d =
 
 pub loaded-restores : (s : List ℕ) (m : Machine) → loaded_of s ≡ Drive m → Restores s m
 unfolding loaded_by loaded_after
-loaded-restores s m d =
-    choose-by (λ (x : Made). x ≡ Drive m → Restores s m) (holds_presets (read_row preset_kinds s 0))
-    (λ t v. restores-cells s m (read_row preset_kinds s 0) refl t _ refl v)
-    (λ t v. let z : ◌≡◌ {A = ℕ} 0 1 = cc in absurd (omega arith)) d
+loaded-restores s m d = by (read_row preset_kinds s 0) refl d
+  where
+    by : (r : Option Row) → read_row preset_kinds s 0 ≡ r → loaded_after codes sound s r ≡ Drive m → Restores s m
+    by None e v = absurd (cc)
+    by (Some p) e v =
+        choose-by (λ (x : Made). x ≡ Drive m → Restores s m) (holds_presets p.values)
+        (λ t w. restores-cells s m p e t _ refl w) (λ t w. absurd (cc)) v

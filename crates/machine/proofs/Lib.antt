@@ -1,7 +1,7 @@
 -- Tables of cases: Starred, Worked; Computing (the definitions opened for them), Delays (a wait through a delay, for a case with long ones).
 -- What soundness says: Cells (of a cell and its run), Parts (of a state, part by part), RemainingCounts (of what remains of a run or a delay),
 -- Places (of the places of the memory that a drive names).
--- What keeps a state sound: Going (what events are made of), Taking (each code), Milliseconds (and waits), Stopping (stops and PX),
+-- What keeps a state sound: Going (what events are made of), Variants (which instruction is a 69 or a 65), Taking (each code), Milliseconds (and waits), Stopping (stops and PX),
 -- Reports (at-speed and halted), Stepping, Inputs. Words: an inputs word needs only the cell that was present before it.
 -- What keeps a drive sound: Ranges (what a string asks for), Storing (a cell), Hearing (a string), Invariant (every call: the theorem).
 -- Waits: a wait gives the least number of milliseconds. Tests: laws of tests and lists that are not particular to the drive.
@@ -24,6 +24,7 @@ pub mod Parts
 pub mod RemainingCounts
 pub mod Places
 pub mod Going
+pub mod Variants
 mod Taking
 pub mod Milliseconds
 pub mod Stopping

@@ -11,16 +11,17 @@ use lib.ListN.{length, take, drop, replicate}
 use lib.Seq.{length-take-le, take-append_seam, take-append-le, take_all}
 use borrow.Author.Tests.{le-ltb}
 use Rattle.laws.proofs.Tests.{both_left, choose-by, choose-true, choose-false}
+use Rattle.format.specs.Formats.{codes}
 use Rattle.instruction.specs.declared.Cell.{Cell}
 use Rattle.packed.specs.Rows.{row_bytes, read_row}
 use Rattle.packed.specs.Cells.{cells_bytes, ReadCells}
-use Rattle.packed.specs.Cells.ReadCells.{NoCells, Cells}
+use Rattle.packed.specs.declared.rows.Row.{Row}
+use Rattle.std.specs.Prelude.{Option, Some, None, Result, Ok}
 use Rattle.machine.specs.Record.{null_cell}
 use Rattle.machine.specs.Soundness.{state_sound, sound}
 use Rattle.machine.specs.Operations.{filled, Made}
 use Rattle.machine.specs.Operations.Made.{Drive}
-use Rattle.machine.specs.Images.{preset_kinds, preset_numbers, image_of, Written, written_into, buffer_by, buffer_written, fresh_with, not_loaded, holds_presets, loaded_with, loaded_after, loaded_by, loaded_of}
-use Rattle.machine.specs.Images.Written.{Image}
+use Rattle.machine.specs.Images.{preset_kinds, preset_numbers, image_of, written_into, buffer_by, buffer_written, fresh_with, not_loaded, holds_presets, loaded_with, loaded_after, loaded_by, loaded_of}
 use Rattle.machine.specs.Invariant.{Kept}
 use Rattle.machine.specs.MemoryImages.{restored, SameMemory, Makes, MemoryImages}
 use Rattle.machine.specs.declared.Presets.{Presets}
@@ -36,24 +37,24 @@ pub record Fits (m : Machine) (buffer : List ℕ) (n : ℕ) : Type 0 where
   pub sound : sound m ≡ true
   pub count : n ≡ length (image_of m)
 
-written-fits : (m : Machine) (buffer : List ℕ) (n : ℕ) → written_into buffer m ≡ Image n → Fits m buffer n
+written-fits : (m : Machine) (buffer : List ℕ) (n : ℕ) → written_into buffer m ≡ Ok n → Fits m buffer n
 unfolding written_into
 written-fits m buffer n e =
-    choose-by (λ (x : Written). x ≡ Image n → Fits m buffer n) (sound m)
-    (λ t. choose-by (λ (x : Written). x ≡ Image n → Fits m buffer n) (ltb (length buffer) (length (image_of m)))
+    choose-by (λ (x : Result ℕ ℕ). x ≡ Ok n → Fits m buffer n) (sound m)
+    (λ t. choose-by (λ (x : Result ℕ ℕ). x ≡ Ok n → Fits m buffer n) (ltb (length buffer) (length (image_of m)))
     (λ u v. let z : ◌≡◌ {A = ℕ} 0 1 = cc in absurd (omega arith))
     (λ u v. let same : n ≡ length (image_of m) = cc in record { sound = t; count = same }))
     (λ t v. let z : ◌≡◌ {A = ℕ} 0 1 = cc in absurd (omega arith)) e
 
-fits-written : (m : Machine) → sound m ≡ true → (buffer : List ℕ) → length (image_of m) ≤ length buffer → written_into buffer m ≡ Image (length (image_of m))
+fits-written : (m : Machine) → sound m ≡ true → (buffer : List ℕ) → length (image_of m) ≤ length buffer → written_into buffer m ≡ Ok (length (image_of m))
 unfolding written_into
 fits-written m t buffer h = choose-true _ _ _ t ∙ choose-false _ _ _ (le-ltb (length buffer) (length (image_of m)) h)
 
 -- the bytes told of are the image
-image-bytes : (m : Machine) (buffer : List ℕ) (n : ℕ) → written_into buffer m ≡ Image n → take n (buffer_written buffer m) ≡ image_of m
+image-bytes : (m : Machine) (buffer : List ℕ) (n : ℕ) → written_into buffer m ≡ Ok n → take n (buffer_written buffer m) ≡ image_of m
 unfolding buffer_written buffer_by filled
 image-bytes m buffer n e =
-    ap (λ (w : Written). take n (buffer_by buffer m w)) e
+    ap (λ (w : Result ℕ ℕ). take n (buffer_by buffer m w)) e
     ∙ ap (λ (k : ℕ). take k (filled (image_of m) buffer)) (written-fits m buffer n e).count
     ∙ take-append_seam (image_of m) (drop (length (image_of m)) buffer)
 
@@ -104,13 +105,16 @@ Either x = (x ≡ not_loaded) ⊎ ((m : Machine) × (x ≡ Drive m))
 
 cells-either : (s : List ℕ) (p : Presets) (r : ReadCells) → Either (loaded_with sound s p r)
 unfolding loaded_with
-cells-either s p NoCells = inl refl
-cells-either s p (Cells cells at) = choose-by Either _ (λ t. inr (fresh_with p cells, refl)) (λ t. inl refl)
+cells-either s p None = inl refl
+cells-either s p (Some (cells, at)) = choose-by Either _ (λ t. inr (fresh_with p cells, refl)) (λ t. inl refl)
 
 pub loaded-either : (s : List ℕ) → Either (loaded_of s)
 unfolding loaded_by loaded_after
-loaded-either s =
-    choose-by Either (holds_presets (read_row preset_kinds s 0)) (λ t. cells-either s _ _) (λ t. inl refl)
+loaded-either s = by (read_row preset_kinds s 0)
+  where
+    by : (r : Option Row) → Either (loaded_after codes sound s r)
+    by None = inl refl
+    by (Some r) = choose-by Either (holds_presets r.values) (λ t. cells-either s _ _) (λ t. inl refl)
 
 loaded-image : (s : List ℕ) (m : Machine) → loaded_of s ≡ Drive m → image_of m ≡ s
 unfolding image_of fresh_with

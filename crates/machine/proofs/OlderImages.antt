@@ -26,7 +26,8 @@ use Rattle.instruction.specs.declared.Cell.{Cell}
 use Rattle.instruction.proofs.Numbering.{length-numbers}
 use Rattle.packed.specs.Rows.{read_row}
 use Rattle.packed.specs.Cells.{ReadCells, cells_from}
-use Rattle.packed.specs.Cells.ReadCells.{NoCells, Cells}
+use Rattle.packed.specs.declared.rows.Row.{Row}
+use Rattle.std.specs.Prelude.{Option, Some, None}
 use Rattle.packed.proofs.Before.{cells-before}
 use Rattle.machine.specs.Record.{null_cell}
 use Rattle.machine.specs.Soundness.{state_sound, sound}
@@ -127,21 +128,26 @@ older-by false b l m e = refl
 with-before :
     (s : List ℕ) (p : Presets) (r : ReadCells) → loaded_with sound_before s p r ≡ older (loaded_with sound s p r)
 unfolding loaded_with
-with-before s p NoCells = refl
-with-before s p (Cells cells at) =
+with-before s p None = refl
+with-before s p (Some (cells, at)) =
     let m = fresh_with p cells in
     ap (λ (x : Bool). choose (both (eqb at (length s)) x) (Drive m) not_loaded) (sound-before m)
     ∙ older-by (eqb at (length s)) (sound m) (has_longer_wait m.cells) m refl
 
 pub loaded-before : (s : List ℕ) → loaded_before s ≡ older (loaded_of s)
 unfolding loaded_by loaded_after
-loaded-before s =
-    let p = read_row preset_kinds s 0 in
-    let q = presets_from p.values in
-    let fresh = replicate 131 null_cell in
-    ap (λ (r : ReadCells). choose (holds_presets p) (loaded_with sound_before s q r) not_loaded) (cells-before 128 s p.at 0 fresh)
-    ∙ ap (λ (x : Made). choose (holds_presets p) x not_loaded) (with-before s q (cells_from codes 128 s p.at 0 fresh))
-    ∙ sym (choose-map older (holds_presets p) (loaded_with sound s q (cells_from codes 128 s p.at 0 fresh)) not_loaded)
+loaded-before s = by (read_row preset_kinds s 0)
+  where
+    by : (r : Option Row) → loaded_after codes_before sound_before s r ≡ older (loaded_after codes sound s r)
+    by None = refl
+    by (Some p) =
+        let holds = holds_presets p.values in
+        let q = presets_from p.values in
+        let fresh = replicate 131 null_cell in
+        let now = cells_from codes 128 s p.next 0 fresh in
+        ap (λ (r : ReadCells). choose holds (loaded_with sound_before s q r) not_loaded) (cells-before 128 s p.next 0 fresh)
+        ∙ ap (λ (x : Made). choose holds x not_loaded) (with-before s q now)
+        ∙ sym (choose-map older holds (loaded_with sound s q now) not_loaded)
 
 -- ---- what each of the two takes
 

@@ -9,6 +9,8 @@ use mathlib.Core.List.{List, [], ◌∷◌}
 use lib.ListN.{length, get_or}
 use lib.Dec.{eqb, ltb, lit≤}
 use borrow.Author.Tests.{eqb-true, leb-true}
+use Rattle.std.specs.declared.option.Option.{Option}
+use Rattle.std.specs.declared.option.Option.TheVariants.{Some, None}
 use Rattle.laws.specs.Tests.{choose, both, either}
 use Rattle.laws.specs.Tables.{every}
 use Rattle.laws.specs.Text.{bytes}
@@ -24,13 +26,11 @@ use Rattle.fields.proofs.Validity.{fields-valid, all_valid_lem}
 use Rattle.format.specs.Formats.{cell, bit}
 use Rattle.instruction.specs.Soundness.{cell_sound}
 use Rattle.instruction.specs.Texts.{sent_cell}
-use Rattle.instruction.specs.declared.text.Sent.{Sent}
-use Rattle.instruction.specs.declared.text.Sent.TheVariants.{Held}
-use Rattle.instruction.specs.declared.text.Sent.TheVariants as sent
+use Rattle.instruction.specs.declared.Cell.{Cell}
 use Rattle.instruction.proofs.Sending.{sent-sound}
 use Rattle.units.specs.declared.CellAddress.{CellAddress}
 use Rattle.machine.specs.Soundness.{is_cell, position_sound, cam_sound}
-use Rattle.machine.specs.Commands.{any_signed, fields_at, is_code, on_fields, on_all, address_of, on_sent, store_in, preset_kind, preset_with, preset_in, cam_with, cam_in, command_by}
+use Rattle.machine.specs.Commands.{any_signed, fields_at, is_code, on_parsed, on_fields, on_all, address_of, on_sent, store_in, preset_kind, preset_with, preset_in, cam_with, cam_in, command_by}
 use Rattle.machine.specs.Strings.{is_stop}
 use Rattle.machine.specs.declared.commands.PresetValue.{PresetValue}
 use Rattle.machine.specs.declared.commands.PresetValue.TheVariants as preset
@@ -107,9 +107,15 @@ Fine code AskFault = Unit {0}
 Fine code AskSuspended = Unit {0}
 Fine code Wrong = Unit {0}
 
-pub on-fields : (P : Command → Type 0) (p : Parsed) (f : List ℕ → Command) → (p.ok ≡ true → P (f p.values)) → P Wrong → P (on_fields p f)
+pub on-parsed : (P : Command → Type 0) (x : Option Parsed) (f : Parsed → Command) → ((p : Parsed) → x ≡ Some p → P (f p)) → P Wrong → P (on_parsed x f)
+unfolding on_parsed
+on-parsed P (Some p) f h w = h p refl
+on-parsed P None f h w = w
+
+pub on-fields :
+    (P : Command → Type 0) (x : Option Parsed) (f : List ℕ → Command) → ((p : Parsed) → x ≡ Some p → P (f p.values)) → P Wrong → P (on_fields x f)
 unfolding on_fields
-on-fields P p f h w = choose-by P p.ok h (λ t. w)
+on-fields P x f h w = on-parsed P x (λ p. f p.values) h w
 
 -- the code that stores is no stop
 store-stop : (code : ℕ) → is_code "WN" code ≡ true → is_stop code ≡ false
@@ -153,25 +159,25 @@ module _ (code : ℕ) (s : List ℕ) where
       (ks : List Kind) (f : List ℕ → Command) → all_good ks ≡ true → length ks ≤ 6 →
       ((vs : List ℕ) → all_valid ks vs ≡ true → Fine code (f vs)) → Fine code (on_all ks s f)
   unfolding on_all Fine
-  on-all ks f g h p = on-fields (Fine code) (parse_all ks s fields_at) f (λ t. p _ (all_valid_lem ks s fields_at g h t)) tt
+  on-all ks f g h p = on-fields (Fine code) (parse_all ks s fields_at) f (λ q t. p _ (all_valid_lem ks s fields_at q g h t)) tt
 
-  on-sent : (a : CellAddress) (from : ℕ) → is_cell a ≡ true → is_stop code ≡ false → (x : Sent) → sent_cell s from ≡ x → Fine code (on_sent a x)
+  on-sent : (a : CellAddress) (from : ℕ) → is_cell a ≡ true → is_stop code ≡ false → (x : Option Cell) → sent_cell s from ≡ x → Fine code (on_sent a x)
   unfolding on_sent Fine
-  on-sent a from c n (Held d) e = (c, (sent-sound s from d e, n))
-  on-sent a from c n sent.Wrong e = tt
+  on-sent a from c n (Some d) e = (c, (sent-sound s from d e, n))
+  on-sent a from c n None e = tt
 
   store-fine : is_stop code ≡ false → Fine code (store_in s (parse_fields (cell ∷ []) s fields_at))
   unfolding store_in Fine all_good every good both
   store-fine n =
-      on-fields (Fine code) _ _
-      (λ t. on-sent _ _ (address-cell _ (fields-valid (cell ∷ []) s fields_at refl (lit≤ tt) t)) n _ refl) tt
+      on-parsed (Fine code) _ _
+      (λ p t. on-sent _ _ (address-cell _ (fields-valid (cell ∷ []) s fields_at p refl (lit≤ tt) t)) n _ refl) tt
 
   preset-fine : Fine code (preset_in s (parse_fields (Name Presets ∷ []) s fields_at))
   unfolding preset_in Fine
   preset-fine =
-      on-fields (Fine code) _ _
-      (λ t. on-fields (Fine code) _ _
-      (λ u. preset-range _ _ (first-valid _ [] _ (all_valid_lem _ s _ (preset-good _) (lit≤ tt) u))) tt) tt
+      on-parsed (Fine code) _ _
+      (λ p t. on-fields (Fine code) _ _
+      (λ q u. preset-range _ _ (first-valid _ [] _ (all_valid_lem _ s _ q (preset-good _) (lit≤ tt) u))) tt) tt
 
   cam-fine : Fine code (cam_in s)
   unfolding cam_in Fine all_good every good good_signed cam_sound position_sound either both

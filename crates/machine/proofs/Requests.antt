@@ -22,7 +22,7 @@ use Rattle.fields.specs.Rows.{fields_from, parse_fields, ended, parse_all, print
 use Rattle.fields.proofs.RoundTrip.{all_back}
 use Rattle.format.specs.Formats.{cell}
 use Rattle.instruction.proofs.Values.{keeps-byte}
-use Rattle.machine.specs.Commands.{code_in, is_code, on_fields, on_all, command_by, command_of}
+use Rattle.machine.specs.Commands.{code_in, is_code, on_parsed, on_fields, on_all, command_by, command_of}
 use Rattle.machine.specs.Calls.{is_byte}
 use Rattle.machine.specs.Reading.{Request, places, requests, request_text}
 use Rattle.machine.specs.Reading.Request.{Cell, Preset, Position, Output, Input, Cam, Fault, Suspended}
@@ -54,7 +54,7 @@ fields = tt
 
 -- the whole string
 parsing : Unit {0}
-unfolding texts fields command_for command_of command_by is_code code_in on_all on_fields choose both either
+unfolding texts fields command_for command_of command_by is_code code_in on_all on_parsed on_fields choose both either
 parsing = tt
 
 -- n requests of a kind
@@ -63,7 +63,7 @@ of_kind kind n = map kind (places n 0)
 
 -- the address of a cell comes back as it was printed
 cell-parsed : (x y k : ℕ) → k < 131 → command_of (x ∷ y ∷ request_text (Cell k)) ≡ command_for (Cell k)
-unfolding command_for command_of command_by is_code code_in pair_of bytes choose on_all on_fields request_text all_good every good both all_valid valid
+unfolding command_for command_of command_by is_code code_in pair_of bytes choose on_all on_parsed on_fields request_text all_good every good both all_valid valid
 cell-parsed x y k h =
     let t = both_true (le-leb 100 (100 + k) (omega arith)) (le-leb (100 + k) 230 (omega arith)) in
     rw (all_back (cell ∷ []) ((100 + k) ∷ []) (x ∷ y ∷ 81 ∷ 77 ∷ []) refl (both_true t refl) refl)

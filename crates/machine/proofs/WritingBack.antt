@@ -28,7 +28,7 @@ use Rattle.instruction.specs.Texts.{cell_text, sent_cell}
 use Rattle.instruction.specs.declared.Cell.{Cell as Content}
 use Rattle.machine.specs.Record.{cell_at, stored_at, null_cell, idle}
 use Rattle.machine.specs.Soundness.{is_cell}
-use Rattle.machine.specs.Commands.{code_in, is_code, on_fields, fields_at, on_sent, store_in, command_by, command_of}
+use Rattle.machine.specs.Commands.{code_in, is_code, on_parsed, on_fields, fields_at, on_sent, store_in, command_by, command_of}
 use Rattle.machine.specs.Answers.{memory_text, answer_of, accepted, answer_at}
 use Rattle.machine.specs.Acting.{same_content, keeps_suspended, stored_state, named, acted_at, cells_after, named_cell, machine_after}
 use Rattle.machine.specs.Strings.{Heard, heard, is_start, allowed, carried_out, told}
@@ -86,12 +86,12 @@ pub store-sent :
     (x y k : ℕ) (t : List ℕ) → k < 131 → Ends t →
     (let pre = x ∷ y ∷ 87 ∷ 78 ∷ print_fields (cell ∷ []) ((100 + k) ∷ []) in
     command_of (pre ++ t) ≡ on_sent (placed k) (sent_cell (pre ++ t) (length pre)))
-unfolding is_code code_in pair_of bytes store_in on_fields
+unfolding is_code code_in pair_of bytes store_in on_parsed on_fields
 store-sent x y k t h e =
     let front = x ∷ y ∷ 87 ∷ 78 ∷ [] in
     let p = print_fields (cell ∷ []) ((100 + k) ∷ []) in
     let parsed = fields_back (cell ∷ []) ((100 + k) ∷ []) front t cell-good (cell-valid k h) refl e in
-    store-read (front ++ (p ++ t)) refl ∙ ap (store_in (front ++ (p ++ t))) parsed ∙ choose-true true _ _ refl
+    store-read (front ++ (p ++ t)) refl ∙ ap (store_in (front ++ (p ++ t))) parsed
     ∙ ap (λ (a : ℕ). on_sent (record { 0 = a }) (sent_cell (front ++ (p ++ t)) (length front + length p))) (keeps-byte (100 + k) (omega arith))
     ∙ ap (λ (i : ℕ). on_sent (placed k) (sent_cell (front ++ (p ++ t)) i)) (sym (length-append front p))
 

@@ -1,6 +1,6 @@
 -- 01, "Strings": what a string asks for. The string stands here without its byte 13; its code is bytes 3 and 4, its fields follow.
 -- Assumes nothing.
-use Rattle.std.specs.Prelude.{ℕ, ◌^◌, ◌-◌, Bool, true, false, List, [], ◌∷◌, get_or, drop, eqb, ltb}
+use Rattle.std.specs.Prelude.{ℕ, ◌^◌, ◌-◌, Bool, true, false, List, [], ◌∷◌, get_or, drop, eqb, ltb, Option, Some, None, is_some}
 use Prim.Native.String.{String}
 use Rattle.laws.specs.Tests.{choose, both}
 use Rattle.laws.specs.Text.{bytes}
@@ -14,9 +14,7 @@ use Rattle.format.specs.Formats.{cell, bit}
 use Rattle.instruction.specs.Soundness.{cell_sound}
 use Rattle.instruction.specs.Numbers.{byte_of, is_one}
 use Rattle.instruction.specs.Texts.{sent_cell}
-use Rattle.instruction.specs.declared.text.Sent.{Sent}
-use Rattle.instruction.specs.declared.text.Sent.TheVariants.{Held}
-use Rattle.instruction.specs.declared.text.Sent.TheVariants as sent
+use Rattle.instruction.specs.declared.Cell.{Cell}
 use Rattle.units.specs.declared.CellAddress.{CellAddress}
 use Rattle.machine.specs.Soundness.{is_cell}
 use Rattle.machine.specs.declared.Resolution.{Resolution}
@@ -41,9 +39,14 @@ code_in s = pair_of (drop 2 s)
 unfoldable pub is_code : String → ℕ → Bool
 is_code letters code = eqb code (pair_of (bytes letters))
 
+-- where all fields are right, what they and what follows them say
+unfoldable pub on_parsed : Option Parsed → (Parsed → Command) → Command
+on_parsed (Some p) f = f p
+on_parsed None f = Wrong
+
 -- where all fields are right, what they say
-unfoldable pub on_fields : Parsed → (List ℕ → Command) → Command
-on_fields p f = choose p.ok (f p.values) Wrong
+unfoldable pub on_fields : Option Parsed → (List ℕ → Command) → Command
+on_fields x f = on_parsed x (λ p. f p.values)
 
 unfoldable pub on_all : List Kind → List ℕ → (List ℕ → Command) → Command
 on_all ks s f = on_fields (parse_all ks s fields_at) f
@@ -51,13 +54,13 @@ on_all ks s f = on_fields (parse_all ks s fields_at) f
 abbrev pub address_of : List ℕ → CellAddress
 address_of vs = record { 0 = byte_of (get_or vs 0 0) }
 
-unfoldable pub on_sent : CellAddress → Sent → Command
-on_sent a (Held c) = Store a c
-on_sent a sent.Wrong = Wrong
+unfoldable pub on_sent : CellAddress → Option Cell → Command
+on_sent a (Some c) = Store a c
+on_sent a None = Wrong
 
 -- 01: "`AAWN,BBB,CC,..,DDD`"
-unfoldable pub store_in : List ℕ → Parsed → Command
-store_in s p = on_fields p (λ vs. on_sent (address_of vs) (sent_cell s p.at))
+unfoldable pub store_in : List ℕ → Option Parsed → Command
+store_in s x = on_parsed x (λ p. on_sent (address_of p.values) (sent_cell s p.at))
 
 -- 01: "(AD, IN, ES, CM as nnn)", with their ranges, and RS by name
 unfoldable pub preset_kind : ℕ → Kind
@@ -85,11 +88,11 @@ preset_with k v =
     (choose (eqb k 3) (preset.Interlock (is_one v)) (preset.Absolute (is_one v)))))
 
 -- 01: "`AAWS,VV,value`"
-unfoldable pub preset_in : List ℕ → Parsed → Command
-preset_in s p =
-    on_fields p (λ ks.
-    on_fields (parse_all (preset_kind (get_or ks 0 0) ∷ []) s p.at) (λ vs.
-    SetPreset (preset_with (get_or ks 0 0) (get_or vs 0 0))))
+unfoldable pub preset_in : List ℕ → Option Parsed → Command
+preset_in s x =
+    on_parsed x (λ p.
+    on_fields (parse_all (preset_kind (get_or p.values 0 0) ∷ []) s p.at) (λ vs.
+    SetPreset (preset_with (get_or p.values 0 0) (get_or vs 0 0))))
 
 -- 01: "`AASC,V,±nnn`, where `AASC,0` may end there"; an unset cam has position 0
 unfoldable pub cam_with : Bool → ℕ → Command
@@ -97,7 +100,7 @@ cam_with set b = SetCam set (choose set b 0)
 
 unfoldable pub cam_in : List ℕ → Command
 cam_in s =
-    choose (parse_all (Fixed 1 0 0 ∷ []) s fields_at).ok (SetCam false 0)
+    choose (is_some (parse_all (Fixed 1 0 0 ∷ []) s fields_at)) (SetCam false 0)
     (on_all (bit ∷ any_signed ∷ []) s (λ vs. cam_with (is_one (get_or vs 0 0)) (get_or vs 1 0)))
 
 -- 01: "Commands .." and "Requests ..", by the code

@@ -3,10 +3,9 @@
 -- Every call on every record, sound or not, has one result, and every call stops: `apply`, `made`, `ordered` and `rounded_of` are total, the contracts
 -- of the program's functions equate their results with them, and a function that is proved ends. What that leaves to say stands here.
 -- Assumes nothing.
-use Rattle.std.specs.Prelude.{ℕ, suc, ◌≤◌, ◌<◌, ◌≡◌, Bool, true, false, not, ◌≢◌, ◌⊎◌, List, [], ◌∷◌, length, get_or, eqb, ltb}
+use Rattle.std.specs.Prelude.{ℕ, suc, ◌≤◌, ◌<◌, ◌≡◌, Bool, true, false, not, ◌≢◌, ◌⊎◌, List, [], ◌∷◌, length, get_or, eqb, ltb, Ok, Err}
 use Rattle.laws.specs.Tests.{choose, either}
 use Rattle.frequency.specs.Rounding.{Greatest, rounded_of}
-use Rattle.frequency.specs.declared.Rounded.TheVariants.{Value, Refused}
 use Rattle.machine.specs.Record.{moving}
 use Rattle.machine.specs.Soundness.{sound}
 use Rattle.machine.specs.Reports.{takes_at_speed, takes_halted}
@@ -77,8 +76,8 @@ pub record Demand1 : Type 0 where
   pub unordered : (m : Machine) → sound m ≡ false → ordered m ≡ NoOrder 2
   pub orders : (m : Machine) → sound m ≡ true → ordered m ≡ Order (order_of m.cells m.state)
   -- "Frequency rounding: 7, value 0 or above 4800."
-  pub unrounded : (f : ℕ) → (f ≡ 0) ⊎ (4800 < f) → rounded_of f ≡ Refused 7
-  pub rounds : (f : ℕ) → 1 ≤ f → f ≤ 4800 → (v : ℕ) × ((rounded_of f ≡ Value v) × Greatest f v)
+  pub unrounded : (f : ℕ) → (f ≡ 0) ⊎ (4800 < f) → rounded_of f ≡ Err 7
+  pub rounds : (f : ℕ) → 1 ≤ f → f ≤ 4800 → (v : ℕ) × ((rounded_of f ≡ Ok v) × Greatest f v)
   -- "changes nothing when it refuses". 01: "Every refusal hands back its number, the drive as it came, and untouched buffers."
   pub unchanged : (c : Call) (m : Machine) → (apply c m).refusal ≢ 0 → apply c m ≡ refused (apply c m).refusal m
   pub untouched : (b buffer : List ℕ) (m : Machine) → (apply (SendString b buffer) m).refusal ≢ 0 → buffer_after b buffer m ≡ buffer

@@ -2,7 +2,7 @@
 -- document 01. What a cell reads back is what a run of it does, and a frequency shown for codes 21 and 22 is the greatest table value not above the
 -- one sent." What each string does is `told`; what follows from it for the cells stands here.
 -- Assumes nothing.
-use Rattle.std.specs.Prelude.{ℕ, ◌+◌, ◌≤◌, ◌<◌, ◌≡◌, true, false, ◌⊎◌, List, [], ◌∷◌, ◌++◌, length, set}
+use Rattle.std.specs.Prelude.{ℕ, ◌+◌, ◌≤◌, ◌<◌, ◌≡◌, true, false, ◌⊎◌, List, [], ◌∷◌, ◌++◌, length, set, Ok}
 use Prim.Native.String.{String}
 use Rattle.fields.specs.Kinds.{valid}
 use Rattle.fields.specs.Rows.{print_fields, all_valid}
@@ -11,7 +11,6 @@ use Rattle.fields.specs.declared.names.Names.TheVariants.{Outputs, Presets}
 use Rattle.units.specs.declared.CellAddress.{CellAddress}
 use Rattle.frequency.specs.Table.{Rule, frequencies}
 use Rattle.frequency.specs.Rounding.{Greatest, rounded_of}
-use Rattle.frequency.specs.declared.Rounded.TheVariants.{Value}
 use Rattle.format.specs.Formats.{cell, bit, hertz, fields_of, known}
 use Rattle.instruction.specs.Runs.{profile_of}
 use Rattle.instruction.specs.Soundness.{cell_sound}
@@ -118,7 +117,7 @@ hertz_in (order.Run l d h r n) = h
 pub record Rounds (code f k : ℕ) (m n : Machine) : Type 0 where
   pub hertz : ℕ
   pub greatest : Greatest f hertz
-  pub rounded : rounded_of f ≡ Value hertz
+  pub rounded : rounded_of f ≡ Ok hertz
   pub rest : List ℕ
   pub shown : read_back k n ≡ showing m k (with_hertz code hertz rest)
   pub ordered :

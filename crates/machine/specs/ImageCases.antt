@@ -1,6 +1,6 @@
 -- Worked images, from the sentences of 02, Slips 1 and 6: what the image of a drive is, what a buffer holds after it, and which bytes are read.
 -- Assumes nothing.
-use Rattle.std.specs.Prelude.{ℕ, ◌-◌, ◌≡◌, Bool, false, List, [], ◌∷◌, ◌++◌, eqb, length, replicate}
+use Rattle.std.specs.Prelude.{ℕ, ◌-◌, ◌≡◌, Bool, false, List, [], ◌∷◌, ◌++◌, eqb, length, replicate, Result, Ok, Err}
 use Prim.Native.String.{String}
 use Rattle.laws.specs.Tests.{choose, both}
 use Rattle.instruction.specs.Numbers.{same_numbers}
@@ -9,8 +9,7 @@ use Rattle.machine.specs.Calls.{Call, after}
 use Rattle.machine.specs.Operations.{Made}
 use Rattle.machine.specs.Operations.Made.{NotMade, Drive}
 use Rattle.machine.specs.Cases.{send, replies, bench}
-use Rattle.machine.specs.Images.{image_of, Written, written_into, buffer_written, loaded_of, loaded_before}
-use Rattle.machine.specs.Images.Written.{NotWritten, Image}
+use Rattle.machine.specs.Images.{image_of, written_into, buffer_written, loaded_of, loaded_before}
 use Rattle.machine.specs.declared.Machine.{Machine}
 
 pub data ImageCase : Type 0 where
@@ -30,13 +29,13 @@ pub data ImageCase : Type 0 where
 unfoldable pub padded : List ℕ → ℕ → List ℕ
 padded front n = front ++ replicate (n - length front) 0
 
-unfoldable pub refusal_of : Written → ℕ
-refusal_of (NotWritten k) = k
-refusal_of (Image n) = 0
+unfoldable pub refusal_of : Result ℕ ℕ → ℕ
+refusal_of (Err k) = k
+refusal_of (Ok n) = 0
 
-unfoldable pub length_of : Written → ℕ
-length_of (NotWritten k) = 0
-length_of (Image n) = n
+unfoldable pub length_of : Result ℕ ℕ → ℕ
+length_of (Err k) = 0
+length_of (Ok n) = n
 
 unfoldable pub is_refused : Made → Bool
 is_refused (NotMade k) = eqb k 10

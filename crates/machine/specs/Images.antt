@@ -1,16 +1,15 @@
 -- 02, Slip 1: the memory image. What it holds, what writing it hands back, and the drive that reading one gives.
 -- Assumes nothing.
-use Rattle.std.specs.Prelude.{ℕ, Bool, List, [], ◌∷◌, ◌++◌, eqb, ltb, length, take, get_or, replicate}
+use Rattle.std.specs.Prelude.{ℕ, Bool, List, [], ◌∷◌, ◌++◌, eqb, ltb, length, take, get_or, replicate, Option, Some, None, Result, Ok, Err}
 use Rattle.laws.specs.Tests.{choose, both}
 use Rattle.fields.specs.declared.kinds.Kind.{Kind}
-use Rattle.fields.specs.declared.rows.Parsed.{Parsed}
 use Rattle.format.specs.Formats.{Codes, codes, codes_before}
 use Rattle.instruction.specs.Numbers.{byte_of, is_one, six, same_numbers}
 use Rattle.instruction.specs.Soundness.{cell_sound_by}
 use Rattle.instruction.specs.declared.Cell.{Cell}
 use Rattle.packed.specs.Rows.{row_bytes, read_row}
 use Rattle.packed.specs.Cells.{cells_bytes, ReadCells, cells_from}
-use Rattle.packed.specs.Cells.ReadCells.{NoCells, Cells}
+use Rattle.packed.specs.declared.rows.Row.{Row}
 use Rattle.machine.specs.Record.{null_cell, fresh_state, with_presets}
 use Rattle.machine.specs.Soundness.{sound_by, sound}
 use Rattle.machine.specs.Commands.{preset_kind, resolution_at}
@@ -43,21 +42,18 @@ image_cells = 128
 unfoldable pub image_of : Machine → List ℕ
 image_of m = row_bytes preset_kinds (preset_numbers m.state.presets) ++ cells_bytes (take image_cells m.cells)
 
-pub data Written : Type 0 where
-  NotWritten : ℕ → Written
-  Image : ℕ → Written
-
--- 02: "The writer tells the image's length"; "9, image buffer too short for the image, after 2"
-unfoldable pub written_into : List ℕ → Machine → Written
+-- 02: "The writer tells the image's length"; "9, image buffer too short for the image, after 2": the length, or the
+-- refusal's number
+unfoldable pub written_into : List ℕ → Machine → Result ℕ ℕ
 written_into buffer m =
     choose (sound m)
-    (choose (ltb (length buffer) (length (image_of m))) (NotWritten 9) (Image (length (image_of m))))
-    (NotWritten 2)
+    (choose (ltb (length buffer) (length (image_of m))) (Err 9) (Ok (length (image_of m))))
+    (Err 2)
 
 -- 02: "leaves later bytes as they are"; 01: "Every refusal hands back .. untouched buffers"
-unfoldable pub buffer_by : List ℕ → Machine → Written → List ℕ
-buffer_by buffer m (Image n) = filled (image_of m) buffer
-buffer_by buffer m (NotWritten k) = buffer
+unfoldable pub buffer_by : List ℕ → Machine → Result ℕ ℕ → List ℕ
+buffer_by buffer m (Ok n) = filled (image_of m) buffer
+buffer_by buffer m (Err k) = buffer
 
 unfoldable pub buffer_written : List ℕ → Machine → List ℕ
 buffer_written buffer m = buffer_by buffer m (written_into buffer m)
@@ -74,20 +70,21 @@ not_loaded = NotMade 10
 
 -- the drive of these presets and cells. Bytes after the last cell are of no image; and the writer makes one for sound drives only
 unfoldable pub loaded_with : (Machine → Bool) → List ℕ → Presets → ReadCells → Made
-loaded_with is_sound s p NoCells = not_loaded
-loaded_with is_sound s p (Cells cells at) =
+loaded_with is_sound s p None = not_loaded
+loaded_with is_sound s p (Some (cells, at)) =
     choose (both (eqb at (length s)) (is_sound (fresh_with p cells))) (Drive (fresh_with p cells)) not_loaded
 
 -- whether these are numbers of presets: those made of them have the same
-unfoldable pub holds_presets : Parsed → Bool
-holds_presets p = both p.ok (same_numbers (preset_numbers (presets_from p.values)) p.values)
+unfoldable pub holds_presets : List ℕ → Bool
+holds_presets vs = same_numbers (preset_numbers (presets_from vs)) vs
 
 -- 02: "Cells 228 to 230 aren't kept and are Null after reading"
-unfoldable pub loaded_after : Codes → (Machine → Bool) → List ℕ → Parsed → Made
-loaded_after t is_sound s p =
-    choose (holds_presets p)
-    (loaded_with is_sound s (presets_from p.values) (cells_from t image_cells s p.at 0 (replicate 131 null_cell)))
+unfoldable pub loaded_after : Codes → (Machine → Bool) → List ℕ → Option Row → Made
+loaded_after t is_sound s (Some r) =
+    choose (holds_presets r.values)
+    (loaded_with is_sound s (presets_from r.values) (cells_from t image_cells s r.next 0 (replicate 131 null_cell)))
     not_loaded
+loaded_after t is_sound s None = not_loaded
 
 -- the drive that the bytes of an image give, or the refusal, by the codes that the reader knows and the drives that are sound to it
 unfoldable pub loaded_by : Codes → (Machine → Bool) → List ℕ → Made

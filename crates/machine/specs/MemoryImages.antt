@@ -1,10 +1,9 @@
 -- 02, Slip 1, as one statement: what images keep, and which bytes are images.
 -- Assumes nothing.
-use Rattle.std.specs.Prelude.{ℕ, ◌≤◌, ◌≡◌, ◌↔◌, List, ◌++◌, length, take, replicate}
+use Rattle.std.specs.Prelude.{ℕ, ◌≤◌, ◌≡◌, ◌↔◌, List, ◌++◌, length, take, replicate, Ok}
 use Rattle.machine.specs.Record.{null_cell}
 use Rattle.machine.specs.Operations.Made.{Drive}
 use Rattle.machine.specs.Images.{image_cells, image_of, written_into, buffer_written, fresh_with, not_loaded, loaded_of}
-use Rattle.machine.specs.Images.Written.{Image}
 use Rattle.machine.specs.Invariant.{Kept}
 use Rattle.machine.specs.declared.Machine.{Machine}
 
@@ -21,7 +20,7 @@ pub record SameMemory (m n : Machine) : Type 0 where
 pub record Makes (m : Machine) (s : List ℕ) : Type 0 where
   pub buffer : List ℕ
   pub count : ℕ
-  pub written : written_into buffer m ≡ Image count
+  pub written : written_into buffer m ≡ Ok count
   pub bytes : take count (buffer_written buffer m) ≡ s
 
 pub record MemoryImages : Type 0 where
@@ -35,4 +34,4 @@ pub record MemoryImages : Type 0 where
   -- and what is read is a sound drive for which the writer makes these bytes again
   pub again : (s : List ℕ) (m : Machine) → loaded_of s ≡ Drive m → Kept m × Makes m s
   -- a sound drive has an image, and a buffer of its length is enough
-  pub every : (m : Machine) → Kept m → (buffer : List ℕ) → length (image_of m) ≤ length buffer → written_into buffer m ≡ Image (length (image_of m))
+  pub every : (m : Machine) → Kept m → (buffer : List ℕ) → length (image_of m) ≤ length buffer → written_into buffer m ≡ Ok (length (image_of m))

@@ -3,7 +3,7 @@
 // The end of a string and of an answer.
 pub const CARRIAGE_RETURN: u8 = 13;
 
-// The codes: two letters as one number.
+// The codes: two letters as one number. No enum: its codes would be read by this table again.
 pub const WN: u16 = 0x574e;
 
 pub const WS: u16 = 0x5753;

@@ -19,7 +19,8 @@ impl StringAddress {
 // The first four bytes of a string.
 #[derive(Clone, Copy)]
 pub struct Header {
-    // Whether the first two are digits.
+    // Whether the first two are digits. A mark and no Option: the answer takes the address where this
+    // is known, and each of six definitions would open it again.
     pub digits: bool,
     // What they say as digits.
     pub address: StringAddress,
@@ -77,24 +78,22 @@ pub enum Command {
     AskFault,
     // QR
     AskSuspended,
-    // An unknown code, a wrong field or a value out of range; a PS that input EE forbids.
+    // An unknown code, a wrong field or a value out of range; a PS that input EE forbids. A kind like
+    // the others, and no Option: `AAN` answers it in the same tables of answers and of acts.
     Wrong,
 }
 
 // The values that a preset takes, by its place in AD, IN, RS, ES, CM.
+#[tactic(auto, unfolding(crate::specs::Commands::preset_kind, laws::specs::Tests::choose))]
 pub fn preset_kind(preset: u32) -> Kind
     ensures { result ≡ preset_kind preset }
 {
-    if preset == 0 {
-        return Kind::Count(0, 47);
+    match preset {
+        0 => Kind::Count(0, 47),
+        1 => Kind::Count(0, 3),
+        2 => Kind::Name(Names::Resolutions),
+        _ => Kind::Count(0, 1),
     }
-    if preset == 1 {
-        return Kind::Count(0, 3);
-    }
-    if preset == 2 {
-        return Kind::Name(Names::Resolutions);
-    }
-    Kind::Count(0, 1)
 }
 
 // The value of RS at a place of its list.

@@ -37,18 +37,34 @@ pub struct Presets {
     pub absolute: bool,
 }
 
-// 01: "cam".
+// 01: "cam". A mark and a number, and no Option: Demand 1 is of every record, an unset cam with a
+// position too, and `cam_sound` tells it from a sound one.
 #[derive(Clone, Copy)]
 pub struct Cam {
     pub set: bool,
     pub position: Position,
 }
 
-// 01: "error code and cell".
+impl Cam {
+    pub const UNSET: Self = Self {
+        set: false,
+        position: Position(0),
+    };
+}
+
+// 01: "error code and cell". No Option of an error enum: Demand 1 is of every record, a code that no
+// error has too, and `fault_sound` tells it from a sound one.
 #[derive(Clone, Copy)]
 pub struct Fault {
     pub code: u8,
     pub cell: CellAddress,
+}
+
+impl Fault {
+    pub const NONE: Self = Self {
+        code: 0,
+        cell: CellAddress(0),
+    };
 }
 
 // 01's rest: nothing, steps or milliseconds, never one for the other. Nothing is its only zero.
@@ -59,12 +75,22 @@ pub enum Remaining {
     Timed(Milliseconds),
 }
 
-// 01: "interrupted record (cell, rest, loop count)". Cell 000: empty.
+// 01: "interrupted record (cell, rest, loop count)". Cell 000: empty. No Option: Demand 1 is of every
+// record, an empty one with a loop count too, and `suspended_sound` tells it from a sound one.
 #[derive(Clone, Copy)]
 pub struct Suspended {
     pub cell: CellAddress,
     pub remaining: Remaining,
     pub loops: u16,
+}
+
+impl Suspended {
+    // 01: "an empty record is three zeros".
+    pub const EMPTY: Self = Self {
+        cell: CellAddress(0),
+        remaining: Remaining::Nothing,
+        loops: 0,
+    };
 }
 
 // 01: "Phases". The last five are a run under way.
@@ -79,7 +105,8 @@ pub enum Phase {
     BackOff,
 }
 
-// 01: "While busy also: present cell, phase, rest, loop count, at-speed mark." Cell 000: idle.
+// 01: "While busy also: present cell, phase, rest, loop count, at-speed mark." Cell 000: idle. No
+// Option, as above: `resting_sound` asks that the other four are zero then.
 #[derive(Clone, Copy)]
 pub struct Running {
     pub cell: CellAddress,

@@ -1,13 +1,18 @@
-// How the script goes: what was seen last, and the checks that were passed.
+// How the script goes: its paragraphs, and the checks that they passed.
+
+// How the paragraph under way goes.
+#[derive(Clone, Copy)]
+pub enum Course {
+    Well,
+    // No line has looked yet at an answer of so many bytes.
+    Unseen(usize),
+    // A line has failed.
+    Failed,
+}
 
 #[derive(Clone, Copy)]
 pub struct Score {
-    // How many bytes there are of what was seen last.
-    pub length: usize,
-    // It is an answer that no line has looked at.
-    pub pending: bool,
-    // A line of the paragraph has failed.
-    pub failed: bool,
+    pub course: Course,
     // The checks that the paragraph has passed.
     pub checks: u64,
     // Of the whole script.
@@ -16,57 +21,34 @@ pub struct Score {
     pub failures: u64,
 }
 
-// Before the first paragraph.
-pub fn new_score() -> Score {
-    Score {
-        length: 0,
-        pending: false,
-        failed: false,
-        checks: 0,
-        paragraphs: 0,
-        passed: 0,
-        failures: 0,
+impl Score {
+    // Before the first paragraph.
+    pub fn new() -> Score {
+        Score {
+            course: Course::Well,
+            checks: 0,
+            paragraphs: 0,
+            passed: 0,
+            failures: 0,
+        }
     }
-}
 
-pub fn next_paragraph(score: Score) -> Score {
-    Score {
-        length: 0,
-        pending: false,
-        failed: false,
-        checks: 0,
-        paragraphs: std::num::wrapping_add_u64(score.paragraphs, 1),
-        passed: score.passed,
-        failures: score.failures,
+    pub fn begin_paragraph(&mut self) {
+        self.course = Course::Well;
+        self.checks = 0;
+        self.paragraphs = self.paragraphs.wrapping_add(1);
     }
-}
 
-// After a string: an answer of so many bytes is to be looked at.
-pub fn answered(mut score: Score, length: usize) -> Score {
-    score.length = length;
-    score.pending = true;
-    score
-}
-
-// After a line that failed: so many bytes say what came.
-pub fn failing(mut score: Score, length: usize) -> Score {
-    score.length = length;
-    score.pending = false;
-    score.failed = true;
-    score
-}
-
-// After a check that was passed.
-pub fn passing(mut score: Score) -> Score {
-    score.pending = false;
-    score.checks = std::num::wrapping_add_u64(score.checks, 1);
-    score
-}
-
-// Holds what was seen against what is expected.
-pub fn compare(score: Score, expected: &[u8], seen: &[u8]) -> Score {
-    if check::same(expected, seen) {
-        return passing(score);
+    pub fn pass_check(&mut self) {
+        self.course = Course::Well;
+        self.checks = self.checks.wrapping_add(1);
     }
-    failing(score, seen.len())
+
+    pub fn count_failure(&mut self) {
+        self.failures = self.failures.wrapping_add(1);
+    }
+
+    pub fn count_checks(&mut self) {
+        self.passed = self.passed.wrapping_add(self.checks);
+    }
 }

@@ -48,6 +48,6 @@ hertz-in Null d v = lit≤ tt
 hertz-in Recovery d v = lit≤ tt
 
 -- 01: "FF in the ramp codes is 03 to 24 thousand Hz": no run is faster
-pub hertz-within : (c : Cell) → cell_sound c ≡ true → WithinHertz (profile_of c.instruction).hertz
+pub hertz_within : (c : Cell) → cell_sound c ≡ true → WithinHertz (profile_of c.instruction).hertz
 unfolding cell_sound
-hertz-within c t = record { within = hertz-in c.instruction c.next.0 (both_left _ _ t) }
+hertz_within c t = record { within = hertz-in c.instruction c.next.0 (both_left _ _ t) }

@@ -30,9 +30,8 @@ pub fn remaining_steps(remaining: Remaining) -> Steps
     ensures { result ≡ remaining_steps remaining }
 {
     match remaining {
-        Remaining::Nothing => Steps(0),
         Remaining::Counted(n) => n,
-        Remaining::Timed(_) => Steps(0),
+        Remaining::Nothing | Remaining::Timed(_) => Steps(0),
     }
 }
 
@@ -42,10 +41,7 @@ pub fn multiplied(hertz: u32, x4: bool) -> u32
     requires { WithinHertz hertz }
     ensures { result ≡ multiplied_of hertz x4 }
 {
-    if x4 {
-        return hertz * 4;
-    }
-    hertz
+    if x4 { hertz * 4 } else { hertz }
 }
 
 #[tactic(auto, unfolding(machine::specs::Orders::run_order))]
@@ -53,18 +49,13 @@ fn run_order(phase: Phase, state: State, profile: Profile) -> BoardOrder
     requires { WithinHertz profile.hertz }
     ensures { result ≡ run_order phase state profile }
 {
-    let signals = signals(state);
-    let running = state.running;
-    let remaining = running.remaining;
-    let backward = backward_in(phase, profile, remaining);
-    let hertz = multiplied(profile.hertz, profile.x4);
-    let steps = remaining_steps(remaining);
+    let remaining = state.running.remaining;
     BoardOrder::Run {
-        signals,
-        backward,
-        hertz,
+        signals: signals(state),
+        backward: backward_in(phase, profile, remaining),
+        hertz: multiplied(profile.hertz, profile.x4),
         ramp: profile.ramp,
-        remaining: steps,
+        remaining: remaining_steps(remaining),
     }
 }
 
@@ -72,9 +63,8 @@ fn run_order(phase: Phase, state: State, profile: Profile) -> BoardOrder
 fn backing_off(state: State, profile: Profile) -> BoardOrder
     ensures { result ≡ order_in BackOff state profile }
 {
-    let signals = signals(state);
     BoardOrder::Run {
-        signals,
+        signals: signals(state),
         backward: !profile.backward,
         hertz: profile.slow,
         ramp: 0,
@@ -82,33 +72,18 @@ fn backing_off(state: State, profile: Profile) -> BoardOrder
     }
 }
 
-// The order, given the present cell.
-#[tactic(auto, unfolding(machine::specs::Orders::order_at))]
+// The order, given the present cell: stand outside a run, slow in both slowings, else the run.
+#[tactic(auto, using(crate::proofs::Cells::hertz_within), unfolding(machine::specs::Orders::order_at, machine::specs::Orders::order_in))]
 pub fn board_order(state: State, cell: Cell) -> BoardOrder
     requires { cell_sound cell ≡ true }
     ensures { result ≡ order_at state cell }
 {
-    let instruction = cell.instruction;
-    let profile = instruction.profile();
-    order(state, profile)
-}
-
-// The order: stand outside a run, slow in both slowings, else the run.
-#[tactic(auto, unfolding(machine::specs::Orders::order_in))]
-pub fn order(state: State, profile: Profile) -> BoardOrder
-    requires { WithinHertz profile.hertz }
-    ensures { result ≡ order_in state.running.phase state profile }
-{
-    let signals = signals(state);
-    let running = state.running;
-    let phase = running.phase;
+    let phase = state.running.phase;
+    let profile = cell.instruction.profile();
     match phase {
-        Phase::Waiting => BoardOrder::Stand(signals),
-        Phase::Delay => BoardOrder::Stand(signals),
-        Phase::Run => run_order(Phase::Run, state, profile),
-        Phase::Braking => run_order(Phase::Braking, state, profile),
-        Phase::Slowing => BoardOrder::Slow(signals),
-        Phase::EmergencySlowing => BoardOrder::Slow(signals),
+        Phase::Waiting | Phase::Delay => BoardOrder::Stand(signals(state)),
+        Phase::Run | Phase::Braking => run_order(phase, state, profile),
+        Phase::Slowing | Phase::EmergencySlowing => BoardOrder::Slow(signals(state)),
         Phase::BackOff => backing_off(state, profile),
     }
 }

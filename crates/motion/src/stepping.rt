@@ -3,23 +3,21 @@ ghost use Rattle.std.specs.Prelude.{◌≡◌};
 ghost use Rattle.machine.specs.Stepping.{remaining_backward, motion_backward, backward_in};
 ghost use Rattle.machine.specs.Stepping.{cam_tested, moved_by, arrived_in};
 ghost use Rattle.machine.specs.Stepping.{counted as counted_of, step_at};
-ghost use Rattle.machine.specs.declared.Remaining.TheVariants.{Counted};
 
 use instruction::Cell;
 use instruction::run::{Motion, Profile};
 use machine::{Cam, Phase, Remaining, State};
 use progress::{advanced, in_phase};
 use stops::emergency::abandoned;
-use units::{CellAddress, Position, Steps};
+use units::CellAddress;
 
 // Whether what remains leads back.
 pub fn remaining_backward(remaining: Remaining) -> bool
     ensures { result ≡ remaining_backward remaining }
 {
     match remaining {
-        Remaining::Nothing => false,
         Remaining::Counted(n) => n.is_negative(),
-        Remaining::Timed(_) => false,
+        Remaining::Nothing | Remaining::Timed(_) => false,
     }
 }
 
@@ -27,13 +25,9 @@ pub fn remaining_backward(remaining: Remaining) -> bool
 fn motion_backward(profile: Profile, remaining: Remaining) -> bool
     ensures { result ≡ motion_backward profile.motion profile remaining }
 {
-    let motion = profile.motion;
-    match motion {
-        Motion::NoRun => profile.backward,
+    match profile.motion {
         Motion::IndexedRun => remaining_backward(remaining),
-        Motion::FreeRun => profile.backward,
-        Motion::SearchRun => profile.backward,
-        Motion::DelayedStopRun => profile.backward,
+        _ => profile.backward,
     }
 }
 
@@ -42,15 +36,9 @@ fn motion_backward(profile: Profile, remaining: Remaining) -> bool
 pub fn backward_in(phase: Phase, profile: Profile, remaining: Remaining) -> bool
     ensures { result ≡ backward_in phase profile remaining }
 {
-    let along = motion_backward(profile, remaining);
     match phase {
-        Phase::Waiting => along,
-        Phase::Delay => along,
-        Phase::Run => along,
-        Phase::Braking => along,
-        Phase::Slowing => along,
-        Phase::EmergencySlowing => along,
         Phase::BackOff => !profile.backward,
+        _ => motion_backward(profile, remaining),
     }
 }
 
@@ -59,21 +47,10 @@ pub fn backward_in(phase: Phase, profile: Profile, remaining: Remaining) -> bool
 pub fn cam_tested(mut state: State) -> State
     ensures { result ≡ cam_tested state }
 {
-    let cam = state.cam;
-    if !cam.set {
-        return state;
+    if state.cam.set && state.cam.position.0 == state.position.0 {
+        state.outputs[State::O3] = !state.outputs[State::O3];
+        state.cam = Cam::UNSET;
     }
-    let position = state.position;
-    if position.0 != cam.position.0 {
-        return state;
-    }
-    let unset = Cam {
-        set: false,
-        position: Position(0),
-    };
-    let o3 = state.outputs[State::O3];
-    state.outputs[State::O3] = !o3;
-    state.cam = unset;
     state
 }
 
@@ -82,52 +59,34 @@ pub fn cam_tested(mut state: State) -> State
 pub fn moved_by(backward: bool, mut state: State) -> State
     ensures { result ≡ moved_by backward state }
 {
-    let old = state.position;
-    let position = old.stepped(!backward);
-    state.position = position;
+    state.position = state.position.stepped(!backward);
     cam_tested(state)
 }
 
 // None remain: the program goes on, or ends if it was slowing for an emergency stop.
 #[tactic(auto, unfolding(machine::specs::Stepping::arrived_in))]
-pub fn arrived_in(phase: Phase, state: State, next: CellAddress) -> State
-    ensures { result ≡ arrived_in phase state next }
+pub fn arrived(state: State, next: CellAddress) -> State
+    ensures { result ≡ arrived_in state.running.phase state next }
 {
-    let on = advanced(state, next);
-    match phase {
-        Phase::Waiting => on,
-        Phase::Delay => on,
-        Phase::Run => on,
-        Phase::Braking => on,
-        Phase::Slowing => on,
+    match state.running.phase {
         Phase::EmergencySlowing => abandoned(state),
-        Phase::BackOff => on,
+        _ => advanced(state, next),
     }
-}
-
-// One less of the steps that remain.
-#[tactic(auto, unfolding(laws::specs::Tests::choose, machine::specs::Stepping::counted))]
-fn counted_steps(n: Steps, state: State, next: CellAddress) -> State
-    ensures { result ≡ counted_of (Counted n) state next }
-{
-    let left = n.nearer();
-    let running = state.running;
-    let phase = running.phase;
-    if left.is_zero() {
-        return arrived_in(phase, state, next);
-    }
-    in_phase(state, phase, Remaining::Counted(left))
 }
 
 // One less of what remains, if steps are counted.
-#[tactic(auto, unfolding(machine::specs::Stepping::counted))]
+#[tactic(auto, unfolding(laws::specs::Tests::choose, machine::specs::Stepping::counted))]
 pub fn counted(remaining: Remaining, state: State, next: CellAddress) -> State
     ensures { result ≡ counted_of remaining state next }
 {
-    match remaining {
-        Remaining::Nothing => state,
-        Remaining::Counted(n) => counted_steps(n, state, next),
-        Remaining::Timed(_) => state,
+    let Remaining::Counted(n) = remaining else {
+        return state;
+    };
+    let left = n.nearer();
+    if left.is_zero() {
+        arrived(state, next)
+    } else {
+        in_phase(state, state.running.phase, Remaining::Counted(left))
     }
 }
 
@@ -136,12 +95,7 @@ pub fn counted(remaining: Remaining, state: State, next: CellAddress) -> State
 pub fn step(state: State, cell: Cell) -> State
     ensures { result ≡ step_at state cell }
 {
-    let running = state.running;
-    let phase = running.phase;
-    let remaining = running.remaining;
-    let instruction = cell.instruction;
-    let profile = instruction.profile();
-    let backward = backward_in(phase, profile, remaining);
-    let moved = moved_by(backward, state);
-    counted(remaining, moved, cell.next)
+    let remaining = state.running.remaining;
+    let backward = backward_in(state.running.phase, cell.instruction.profile(), remaining);
+    counted(remaining, moved_by(backward, state), cell.next)
 }

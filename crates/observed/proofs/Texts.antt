@@ -6,8 +6,6 @@ use Rattle.laws.proofs.Tests.{lt-or-le}
 use Rattle.lines.specs.Gathering.{gathered, Gathered, bit_text}
 use Rattle.observed.specs.Outputs.{bits_text}
 use Rattle.observed.specs.Shown.{shown_byte, shown, pair_text, hex_text}
-use Rattle.observed.specs.Sums.{with_byte, with_all}
-use Rattle.observed.specs.declared.sums.Sum.{Sum}
 
 -- a text that is written otherwise
 pub gathered-as : {l : List ℕ} {n : ℕ} {p q l' : List ℕ} {r : ℕ} → q ≡ p → Gathered l n p l' r → Gathered l n q l' r
@@ -39,65 +37,37 @@ gathered_none l n r e = record { next = e ∙ sym (length-take n l) ∙ ap lengt
         ∙ ap (λ (k : ℕ). take n l ++ drop k l) (sym (length-take n l))
         ∙ ap (λ (x : List ℕ). x ++ drop (length x) l) (sym front)
 
--- the bits of some outputs, and one more
-bits-append : (xs ys : List Bool) → bits_text (xs ++ ys) ≡ bits_text xs ++ bits_text ys
-unfolding bits_text
-bits-append [] ys = refl
-bits-append (x ∷ xs) ys = ap (λ (t : List ℕ). bit_text x ++ t) (bits-append xs ys) ∙ sym (append_assoc (bit_text x) (bits_text xs) (bits_text ys))
-
-bits-one : (b : Bool) → bits_text (b ∷ []) ≡ bit_text b
-unfolding bits_text
-bits-one b = append-nil (bit_text b)
-
-pub bits-next :
-    (o : List Bool) (from i : ℕ) → from ≤ i → i < length o →
-    bits_text (take (i + 1 - from) (drop from o)) ≡ bits_text (take (i - from) (drop from o)) ++ bit_text (get_or o i false)
-bits-next o from i h k =
-    let more : i + 1 - from ≡ suc (i - from) = omega arith in
-    let place : from + (i - from) ≡ i = omega arith in
-    ap (λ (j : ℕ). bits_text (take j (drop from o))) more
-    ∙ ap bits_text (take-suc (drop from o) (i - from) false (rw (length-drop from o) (omega arith)))
-    ∙ bits-append (take (i - from) (drop from o)) (get_or (drop from o) (i - from) false ∷ [])
-    ∙ ap (λ (t : List ℕ). bits_text (take (i - from) (drop from o)) ++ t) (bits-one (get_or (drop from o) (i - from) false))
-    ∙ ap (λ (b : Bool). bits_text (take (i - from) (drop from o)) ++ bit_text b) (get_or-drop from o (i - from) false
-    ∙ ap (λ (j : ℕ). get_or o j false) place)
-
--- a text of bytes that is made of the text of each: some bytes, and one more
-record Joined (byte : ℕ → List ℕ) (text : List ℕ → List ℕ) : Type 0 where
+-- a text of things that is made of the text of each: some things, and one more
+record Joined {A : Type 0} (byte : A → List ℕ) (text : List A → List ℕ) : Type 0 where
   none : text [] ≡ []
-  more : (b : ℕ) (bs : List ℕ) → text (b ∷ bs) ≡ byte b ++ text bs
+  more : (b : A) (bs : List A) → text (b ∷ bs) ≡ byte b ++ text bs
 
-joined-append : {byte : ℕ → List ℕ} {text : List ℕ → List ℕ} → Joined byte text → (xs ys : List ℕ) → text (xs ++ ys) ≡ text xs ++ text ys
-joined-append {byte} {text} j [] ys = ap (λ (t : List ℕ). t ++ text ys) (sym j.none)
-joined-append {byte} {text} j (x ∷ xs) ys =
+joined-append : {A : Type 0} {byte : A → List ℕ} {text : List A → List ℕ} → Joined byte text → (xs ys : List A) → text (xs ++ ys) ≡ text xs ++ text ys
+joined-append {A} {byte} {text} j [] ys = ap (λ (t : List ℕ). t ++ text ys) (sym j.none)
+joined-append {A} {byte} {text} j (x ∷ xs) ys =
     j.more x (xs ++ ys)
     ∙ ap (λ (t : List ℕ). byte x ++ t) (joined-append j xs ys)
     ∙ sym (append_assoc (byte x) (text xs) (text ys))
     ∙ ap (λ (t : List ℕ). t ++ text ys) (sym (j.more x xs))
 
 joined-next :
-    {byte : ℕ → List ℕ} {text : List ℕ → List ℕ} → Joined byte text → (s : List ℕ) (i : ℕ) → i < length s →
-    text (take (i + 1) s) ≡ text (take i s) ++ byte (get_or s i 0)
-joined-next {byte} {text} j s i h =
-    let b = get_or s i 0 in
+    {A : Type 0} {byte : A → List ℕ} {text : List A → List ℕ} → Joined byte text → (s : List A) (i : ℕ) (d : A) → i < length s →
+    text (take (i + 1) s) ≡ text (take i s) ++ byte (get_or s i d)
+joined-next {A} {byte} {text} j s i d h =
+    let b = get_or s i d in
     ap (λ (k : ℕ). text (take k s)) (add-one i)
-    ∙ ap text (take-suc s i 0 h)
+    ∙ ap text (take-suc s i d h)
     ∙ joined-append j (take i s) (b ∷ [])
     ∙ ap (λ (t : List ℕ). text (take i s) ++ t) (j.more b [] ∙ ap (λ (t : List ℕ). byte b ++ t) j.none ∙ append-nil (byte b))
 
 pub shown-next : (s : List ℕ) (i : ℕ) → i < length s → shown (take (i + 1) s) ≡ shown (take i s) ++ shown_byte (get_or s i 0)
 unfolding shown
-shown-next = joined-next {byte = shown_byte} {text = shown} (record { none = refl; more = λ b bs. refl })
+shown-next s i = joined-next {byte = shown_byte} {text = shown} (record { none = refl; more = λ b bs. refl }) s i 0
 
 pub hex-next : (s : List ℕ) (i : ℕ) → i < length s → hex_text (take (i + 1) s) ≡ hex_text (take i s) ++ pair_text (get_or s i 0)
 unfolding hex_text
-hex-next = joined-next {byte = pair_text} {text = hex_text} (record { none = refl; more = λ b bs. refl })
+hex-next s i = joined-next {byte = pair_text} {text = hex_text} (record { none = refl; more = λ b bs. refl }) s i 0
 
--- the sum of the bytes that are left
-pub sum-next : (a : Sum) (s : List ℕ) (i : ℕ) → i < length s → with_all a (drop i s) ≡ with_all (with_byte a (get_or s i 0)) (drop (i + 1) s)
-unfolding with_all
-sum-next a s i h = rw (add-one i, drop-cons s i 0 h) refl
-
-pub sum-end : (a : Sum) (s : List ℕ) (i : ℕ) → i ≡ length s → with_all a (drop i s) ≡ a
-unfolding with_all
-sum-end a s i e = rw (e, drop-length s) refl
+pub bits-next : (o : List Bool) (i : ℕ) → i < length o → bits_text (take (i + 1) o) ≡ bits_text (take i o) ++ bit_text (get_or o i false)
+unfolding bits_text
+bits-next o i = joined-next {byte = bit_text} {text = bits_text} (record { none = refl; more = λ b bs. refl }) o i false

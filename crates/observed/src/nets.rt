@@ -23,12 +23,7 @@ fn gather_sign(line: &mut [u8], n: usize, net: NetSteps) -> usize
 fn size_of(net: NetSteps) -> u64
     ensures { result ≡ unsigned_abs net.0 }
 {
-    let n = net.0;
-    if n < 0 {
-        // The least i64 has no negative, but one more has.
-        return -(n + 1) as u64 + 1;
-    }
-    n as u64
+    net.0.unsigned_abs()
 }
 
 // Nine digits, with leading zeros.

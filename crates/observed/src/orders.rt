@@ -9,13 +9,11 @@ use machine::answers::{BoardOrder, BoardSignals, End};
 use units::Steps;
 
 // `,1` or `,0`.
+#[tactic(auto, unfolding(crate::specs::Orders::flag_text, laws::specs::Text::bytes))]
 fn gather_flag(line: &mut [u8], n: usize, on: bool) -> usize
     ensures { Gathered line.old n (flag_text on) line.new result }
 {
-    if on {
-        return gather(line, n, b",1");
-    }
-    gather(line, n, b",0")
+    gather(line, n, if on { b",1" } else { b",0" })
 }
 
 // `1,0,0`: IN, CU and FC, which every order has.
@@ -35,14 +33,12 @@ pub fn gather_field(line: &mut [u8], n: usize, value: u32) -> usize
     gather(line, a, b",")
 }
 
+#[tactic(auto, unfolding(crate::specs::Orders::direction_text, laws::specs::Text::bytes))]
 fn gather_direction(line: &mut [u8], n: usize, backward: bool) -> usize
     ensures { Gathered
         line.old n (direction_text backward) line.new result }
 {
-    if backward {
-        return gather(line, n, b"run:-,");
-    }
-    gather(line, n, b"run:+,")
+    gather(line, n, if backward { b"run:-," } else { b"run:+," })
 }
 
 // `run:+,9000,15,+31754,`: direction, Hz, ramp code and rest.
@@ -91,6 +87,7 @@ pub fn gather_order(line: &mut [u8], n: usize, order: BoardOrder) -> usize
 }
 
 // `idle`, `moving` or `spent`.
+#[tactic(auto, unfolding(crate::specs::Orders::end_text, laws::specs::Text::bytes))]
 pub fn gather_end(line: &mut [u8], n: usize, end: End) -> usize
     ensures { Gathered line.old n (end_text end) line.new result }
 {

@@ -1,21 +1,15 @@
 // The outputs, as text.
-ghost use Rattle.std.specs.Prelude.{◌-◌, ◌≤◌, take, drop};
 ghost use Rattle.lines.specs.Gathering.{Gathered};
 ghost use Rattle.observed.specs.Outputs.{bits_text, outputs_text};
 
-use lines::gathering::{gather_bit, least};
+use lines::gathering::gather_bit;
 
-// The outputs from a place on to another.
-fn gather_bits(line: &mut [u8], n: usize, outputs: [bool; 14], from: usize, to: usize) -> usize
-    requires { (from ≤ to) × (to ≤ 14) }
-    ensures { Gathered line.old n
-        (bits_text (take (to - from) (drop from outputs))) line.new result }
+fn gather_bits(line: &mut [u8], n: usize, bits: &[bool]) -> usize
+    ensures { Gathered line.old n (bits_text bits.now) line.new result }
 {
-    let mut next = least(n, line.len());
-    let mut i = from;
-    while i < to {
-        next = gather_bit(line, next, outputs[i]);
-        i += 1;
+    let mut next = n.min(line.len());
+    for on in bits {
+        next = gather_bit(line, next, *on);
     }
     next
 }
@@ -24,8 +18,8 @@ fn gather_bits(line: &mut [u8], n: usize, outputs: [bool; 14], from: usize, to: 
 pub fn gather_outputs(line: &mut [u8], n: usize, outputs: [bool; 14]) -> usize
     ensures { Gathered line.old n (outputs_text outputs) line.new result }
 {
-    let a = gather_bits(line, n, outputs, 0, 4);
-    let b = gather_bits(line, a, outputs, 5, 13);
-    let c = gather_bits(line, b, outputs, 4, 5);
-    gather_bits(line, c, outputs, 13, 14)
+    let a = gather_bits(line, n, &outputs[..4]);
+    let b = gather_bits(line, a, &outputs[5..13]);
+    let c = gather_bits(line, b, &outputs[4..5]);
+    gather_bits(line, c, &outputs[13..])
 }

@@ -4,20 +4,14 @@ ghost use Rattle.lines.specs.Gathering.{Gathered};
 ghost use Rattle.observed.specs.Shown.{is_plain, digit, shown_byte, shown};
 ghost use Rattle.observed.specs.Shown.{pair_text, hex_text};
 
-use lines::gathering::{gather, least};
+use lines::gathering::gather;
 
 // 33 to 126, except the backslash.
 #[tactic(auto, unfolding(crate::specs::Shown::is_plain, laws::specs::Tests::both))]
 fn is_plain(byte: u8) -> bool
     ensures { result ≡ is_plain byte }
 {
-    if byte < 33 {
-        return false;
-    }
-    if 126 < byte {
-        return false;
-    }
-    byte != b'\\'
+    (33..=126).contains(&byte) && byte != b'\\'
 }
 
 // A digit below 16, in lower case.
@@ -27,18 +21,19 @@ pub fn digit_of(value: u8) -> u8
     ensures { result ≡ digit value }
 {
     if value < 10 {
-        return 48 + value;
+        b'0' + value
+    } else {
+        b'a' + value - 10
     }
-    87 + value
 }
 
 // A byte as it is, or as `\xNN`.
+#[tactic(auto, unfolding(crate::specs::Shown::shown_byte, laws::specs::Tests::choose))]
 fn gather_byte(line: &mut [u8], n: usize, byte: u8) -> usize
     ensures { Gathered line.old n (shown_byte byte) line.new result }
 {
     if is_plain(byte) {
-        let one = [byte];
-        return gather(line, n, &one);
+        return gather(line, n, &[byte]);
     }
     let four = [b'\\', b'x', digit_of(byte / 16), digit_of(byte % 16)];
     gather(line, n, &four)
@@ -48,16 +43,15 @@ pub fn gather_shown(line: &mut [u8], n: usize, bytes: &[u8]) -> usize
     ensures { Gathered
         line.old n (shown bytes.now) line.new result }
 {
-    let mut next = least(n, line.len());
-    let mut i = 0;
-    while i < bytes.len() {
-        next = gather_byte(line, next, bytes[i]);
-        i += 1;
+    let mut next = n.min(line.len());
+    for byte in bytes {
+        next = gather_byte(line, next, *byte);
     }
     next
 }
 
 // A byte as two digits.
+#[tactic(auto, unfolding(crate::specs::Shown::pair_text))]
 fn gather_pair(line: &mut [u8], n: usize, byte: u8) -> usize
     ensures { Gathered line.old n (pair_text byte) line.new result }
 {
@@ -65,15 +59,15 @@ fn gather_pair(line: &mut [u8], n: usize, byte: u8) -> usize
     gather(line, n, &two)
 }
 
+// The loop of `gather_shown` again: one loop over what to do with a byte would need clauses on a
+// closure, which are longer than both.
 pub fn gather_hex(line: &mut [u8], n: usize, bytes: &[u8]) -> usize
     ensures { Gathered
         line.old n (hex_text bytes.now) line.new result }
 {
-    let mut next = least(n, line.len());
-    let mut i = 0;
-    while i < bytes.len() {
-        next = gather_pair(line, next, bytes[i]);
-        i += 1;
+    let mut next = n.min(line.len());
+    for byte in bytes {
+        next = gather_pair(line, next, *byte);
     }
     next
 }

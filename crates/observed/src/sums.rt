@@ -22,7 +22,7 @@ impl Sum {
     fn with(self, byte: u8) -> Sum
         ensures { result ≡ with_byte self byte }
     {
-        let count = std::num::wrapping_add_u32(self.count, 1);
+        let count = self.count.wrapping_add(1);
         let weight = (count % 1_000_003) as u64;
         let sum = self.sum as u64 + weight * byte as u64;
         Sum {
@@ -32,15 +32,10 @@ impl Sum {
     }
 
     // With more bytes behind them.
+    #[tactic(auto, unfolding(crate::specs::Sums::with_all))]
     pub fn with_all(self, bytes: &[u8]) -> Sum
         ensures { result ≡ with_all self bytes.now }
     {
-        let mut sum = self;
-        let mut i = 0;
-        while i < bytes.len() {
-            sum = sum.with(bytes[i]);
-            i += 1;
-        }
-        sum
+        bytes.iter().fold(self, |sum, byte| sum.with(*byte))
     }
 }

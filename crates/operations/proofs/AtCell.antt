@@ -1,8 +1,9 @@
--- What the lower crates give of an event at a cell in hand; and what an event comes to at the present cell is the outcome of its call.
+-- What an event comes to at the present cell is the outcome of its call.
 -- Assumes nothing.
 use Prim.Native.Nat.{ℕ}
 use mathlib.Core.Path.{◌≡◌, refl, sym, ap, ◌∙◌}
 use mathlib.Core.Bool.{Bool}
+use Rattle.std.specs.Prelude.{Result}
 use mathlib.Core.List.{List}
 use lib.Dec.{ltb}
 use Rattle.laws.specs.Tests.{choose}
@@ -20,26 +21,12 @@ use Rattle.machine.specs.Calls.Call.{SetInputs, Step, AtSpeed, Halted}
 use Rattle.machine.specs.declared.State.{State}
 use Rattle.machine.specs.declared.Machine.{Machine}
 use Rattle.machine.proofs.Words.{input-word-present}
-use Rattle.operations.specs.declared.results.Acted.{Acted}
+use Rattle.operations.specs.declared.results.Refusal.{Refusal}
 use Rattle.operations.specs.Results.{number_of, acted_on}
-use Rattle.operations.specs.Events.{taken_as, refused_as, stepped_at, at_speed_at, halted_on, worded_at}
-
--- at-speed, judged by the cell's profile
-pub takes-at-cell :
-    (s : State) (c : Cell) {p : Profile} {b : Bool} → p ≡ profile_of c.instruction → takes_at_speed_in s.running.phase p ≡ b →
-    takes_at_speed_at s c ≡ b
-unfolding takes_at_speed_at
-takes-at-cell s c q t = rw (← q) t
-
--- halted, by the cell's motion
-pub halted-at-cell :
-    (s : State) (c : Cell) {p : Profile} {r : State} → p ≡ profile_of c.instruction →
-    r ≡ halted_in s.running.phase p.motion s c.next → r ≡ halted_at s c
-unfolding halted_at
-halted-at-cell s c q t = rw (← q) t
+use Rattle.operations.specs.Events.{stepped_at, at_speed_at, halted_on, worded_at}
 
 -- a choice of what is handed back, as the choice of outcomes
-chosen-as : (m : Machine) (b : Bool) (x y : Acted) → acted_on m (choose b x y) ≡ choose b (acted_on m x) (acted_on m y)
+chosen-as : (m : Machine) (b : Bool) (x y : Result State Refusal) → acted_on m (choose b x y) ≡ choose b (acted_on m x) (acted_on m y)
 chosen-as m b x y = choose-map (acted_on m) b x y
 
 module _ (m : Machine) {c : Cell} (e : present m.cells m.state ≡ c) where

@@ -6,83 +6,41 @@ ghost use Rattle.machine.specs.Calls.{act};
 ghost use Rattle.machine.specs.Calls.Call.{Step, AtSpeed, Halted};
 ghost use Rattle.operations.specs.Results.{acted_on};
 
+use crate::events;
 use crate::parts::present_cell;
-use crate::results::{Acted, Refusal};
-use machine::Machine;
+use crate::results::Refusal;
 use machine::answers::BoardOrder;
+use machine::{Machine, State};
 use motion::orders::board_order;
-use motion::reports::{takes_at_speed, takes_halted};
-use progress::moving;
 
 // A step.
-pub fn step(machine: Machine) -> Acted
-    requires { sound machine ≡ true }
-    ensures { acted_on machine result ≡ act Step machine }
+pub fn step(machine: &Machine) -> Result<State, Refusal>
+    requires { sound machine.now ≡ true }
+    ensures { acted_on machine.now result ≡ act Step machine.now }
 {
-    let now = machine.state;
-    if !moving(now) {
-        return Acted {
-            refusal: Refusal::NoRunUnderWay,
-            state: now,
-        };
-    }
-    let cell = present_cell(machine);
-    Acted {
-        refusal: Refusal::None,
-        state: motion::stepping::step(now, cell),
-    }
+    events::step(machine.state, present_cell(machine))
 }
 
 // The run has reached its speed.
-pub fn at_speed(machine: Machine) -> Acted
-    requires { sound machine ≡ true }
-    ensures { acted_on machine result ≡ act AtSpeed machine }
+pub fn at_speed(machine: &Machine) -> Result<State, Refusal>
+    requires { sound machine.now ≡ true }
+    ensures { acted_on machine.now result ≡ act AtSpeed machine.now }
 {
-    let cell = present_cell(machine);
-    let instruction = cell.instruction;
-    let profile = instruction.profile();
-    let now = machine.state;
-    let running = now.running;
-    let phase = running.phase;
-    if !takes_at_speed(phase, profile) {
-        return Acted {
-            refusal: Refusal::ReportOutOfPlace,
-            state: now,
-        };
-    }
-    Acted {
-        refusal: Refusal::None,
-        state: motion::reports::at_speed(now),
-    }
+    events::at_speed(machine.state, present_cell(machine))
 }
 
 // The motor stands after slowing.
-pub fn halted(machine: Machine) -> Acted
-    requires { sound machine ≡ true }
-    ensures { acted_on machine result ≡ act Halted machine }
+pub fn halted(machine: &Machine) -> Result<State, Refusal>
+    requires { sound machine.now ≡ true }
+    ensures { acted_on machine.now result ≡ act Halted machine.now }
 {
-    let now = machine.state;
-    if !takes_halted(now) {
-        return Acted {
-            refusal: Refusal::ReportOutOfPlace,
-            state: now,
-        };
-    }
-    let cell = present_cell(machine);
-    let instruction = cell.instruction;
-    let profile = instruction.profile();
-    let motion = profile.motion;
-    Acted {
-        refusal: Refusal::None,
-        state: motion::reports::halted(motion, now, cell.next),
-    }
+    events::halted(machine.state, present_cell(machine))
 }
 
 // The order to the board.
-pub fn order(machine: Machine) -> BoardOrder
-    requires { sound machine ≡ true }
-    ensures { result ≡ order_of machine.cells machine.state }
+pub fn order(machine: &Machine) -> BoardOrder
+    requires { sound machine.now ≡ true }
+    ensures { result ≡ order_of machine.now.cells machine.now.state }
 {
-    let cell = present_cell(machine);
-    board_order(machine.state, cell)
+    board_order(machine.state, present_cell(machine))
 }

@@ -8,12 +8,11 @@ use instruction::Cell;
 use machine::Machine;
 
 // The present cell; an idle drive has none, and the first cell serves.
-pub fn present_cell(machine: Machine) -> Cell
-    requires { sound_of machine ≡ true }
-    ensures state_value { present machine.cells machine.state ≡ result }
+pub fn present_cell(machine: &Machine) -> Cell
+    requires { sound_of machine.now ≡ true }
+    ensures state_value { present machine.now.cells machine.now.state ≡ result }
     ensures sound { cell_sound result ≡ true }
 {
     let at = machine.state.running.cell;
-    let i = at.place();
-    machine.cells[i]
+    machine.cells[at.place()]
 }

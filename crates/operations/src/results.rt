@@ -1,16 +1,13 @@
-// What the operations hand back.
+// What the operations hand back: what was asked for, or why it was refused.
 ghost use Rattle.std.specs.Prelude.{◌≡◌};
 ghost use Rattle.operations.specs.Results.{number_of};
 
 use machine::answers::End;
-use machine::{Machine, State};
 use units::Milliseconds;
 
 // Why an operation was refused. 7, of frequency rounding, is frequency's own.
 #[derive(Clone, Copy)]
 pub enum Refusal {
-    // Not refused.
-    None,
     // 1: the address of a fresh drive is above 47.
     AddressAbove47,
     // 2: the drive is unsound.
@@ -28,12 +25,12 @@ pub enum Refusal {
 }
 
 impl Refusal {
-    // The number that 01 gives it, 0 where nothing was refused.
+    // The number that 01 gives it.
+    #[tactic(auto, unfolding(crate::specs::Results::number_of))]
     pub fn number(self) -> u8
         ensures { result ≡ number_of self }
     {
         match self {
-            Refusal::None => 0,
             Refusal::AddressAbove47 => 1,
             Refusal::Unsound => 2,
             Refusal::ShortBuffer => 3,
@@ -45,33 +42,9 @@ impl Refusal {
     }
 }
 
-// After an event: the next state, or a refusal and the state as it came.
-#[derive(Clone, Copy)]
-pub struct Acted {
-    pub refusal: Refusal,
-    pub state: State,
-}
-
-// After a string: how many bytes at the front of the buffer answer it, 0 for silence, and the next
-// record; or a refusal and the record as it came.
-#[derive(Clone, Copy)]
-pub struct Answered {
-    pub refusal: Refusal,
-    pub length: usize,
-    pub machine: Machine,
-}
-
 // How a wait ended, and how many milliseconds it gave.
 #[derive(Clone, Copy)]
-pub enum Ending {
-    NoWait,
-    Ended { end: End, given: Milliseconds },
-}
-
-// After a wait: how it ended and the next state, or a refusal and the state as it came.
-#[derive(Clone, Copy)]
-pub struct Passed {
-    pub refusal: Refusal,
-    pub ending: Ending,
-    pub state: State,
+pub struct Ending {
+    pub end: End,
+    pub given: Milliseconds,
 }

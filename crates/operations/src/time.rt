@@ -5,55 +5,45 @@ ghost use Rattle.machine.specs.Soundness.{sound};
 ghost use Rattle.machine.specs.Milliseconds.{millisecond as millisecond_of};
 ghost use Rattle.machine.specs.Calls.{act};
 ghost use Rattle.machine.specs.Calls.Call.{Wait};
-ghost use Rattle.operations.specs.Results.{passed_on};
+ghost use Rattle.operations.specs.Results.{shown_during, waited_as};
 
-use crate::results::{Ending, Passed, Refusal};
+use crate::results::{Ending, Refusal};
 use machine::{Machine, State};
 use units::Milliseconds;
 
 // Whether a wait may have the budget.
+#[tactic(auto, unfolding(laws::specs::Tests::both))]
 fn within(budget: Milliseconds) -> bool
     ensures { result ≡ both (leb 1 budget.0) (leb budget.0 1000000) }
 {
-    (1 <= budget.0) & (budget.0 <= 1_000_000)
+    (1..=1_000_000).contains(&budget.0)
 }
 
 // One millisecond, at the present cell and the interrupted record's; an empty record has none, and
-// the first cell serves. Both are read here, since each function that takes a drive copies it.
-pub fn millisecond(machine: Machine) -> State
-    requires { sound machine ≡ true }
-    ensures { result ≡ millisecond_of machine.cells machine.state }
+// the first cell serves.
+pub fn millisecond(machine: &Machine) -> State
+    requires { sound machine.now ≡ true }
+    ensures { result ≡ millisecond_of machine.now.cells machine.now.state }
 {
     let at = machine.state.running.cell;
-    let i = at.place();
-    let cell = machine.cells[i];
     let held_at = machine.state.suspended.cell;
-    let j = held_at.place();
-    let held = machine.cells[j];
+    let cell = machine.cells[at.place()];
+    let held = machine.cells[held_at.place()];
     execution::milliseconds::millisecond(machine.state, cell, held)
 }
 
 // Milliseconds until the drive is idle, moving or the budget is spent.
-pub fn wait(machine: Machine, budget: Milliseconds) -> Passed
-    requires { sound machine ≡ true }
-    ensures { passed_on machine budget.0 result ≡ act (Wait budget.0) machine }
+pub fn wait(machine: &mut Machine, budget: Milliseconds) -> Result<Ending, Refusal>
+    requires { sound machine.old ≡ true }
+    ensures { waited_as result machine.new (shown_during budget.0 machine.old) ≡ act (Wait budget.0) machine.old }
 {
-    let now = machine.state;
     if !within(budget) {
-        return Passed {
-            refusal: Refusal::BudgetOutOfRange,
-            ending: Ending::NoWait,
-            state: now,
-        };
+        return Err(Refusal::BudgetOutOfRange);
     }
-    let cells = machine.cells;
-    let ran = waits::wait(cells, now, budget);
-    let last = ran.state;
-    let end = ran.end;
-    let given = ran.given;
-    Passed {
-        refusal: Refusal::None,
-        ending: Ending::Ended { end, given },
-        state: last,
-    }
+    let ran = waits::wait(machine.cells, machine.state, budget);
+    machine.state = ran.state;
+    Ok(Ending {
+        end: ran.end,
+        given: ran.given,
+    })
 }

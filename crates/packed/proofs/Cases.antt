@@ -22,12 +22,12 @@ use Rattle.varint.specs.Signs.{folded, unfolded}
 use Rattle.format.specs.Formats.{fields_in, fields_of, known_in, known, codes}
 use Rattle.instruction.specs.Codes.{code_of}
 use Rattle.instruction.specs.Numbers.{travel_of, numbers_with, cam_of, cell_with, cell_of, same_numbers}
+use Rattle.instruction.specs.declared.Cell.{Cell}
 use Rattle.instruction.specs.Texts.{cell_text, sent_fields, sent_code, sent_cell}
-use Rattle.instruction.specs.declared.text.Sent.{Sent}
-use Rattle.instruction.specs.declared.text.Sent.TheVariants as sent
 use Rattle.packed.specs.Rows.{number_for, value_for, row_bytes, row_from, read_row}
-use Rattle.packed.specs.Cells.{ReadCell, cell_bytes, cell_by, cell_after, cell_in}
-use Rattle.packed.specs.Cells.ReadCell.{Held, Wrong}
+use Rattle.packed.specs.Cells.{cell_bytes, cell_by, cell_after, cell_in}
+use Rattle.packed.specs.declared.cells.ReadCell.{ReadCell}
+use Rattle.std.specs.Prelude.{Option, Some, None}
 
 -- what the cases unfold
 computing : Unit {0}
@@ -65,18 +65,18 @@ cases =
     ∷ (",69", 69 ∷ [])
     ∷ []
 
-written : Sent → List ℕ
-written (sent.Held c) = cell_bytes c
-written sent.Wrong = []
+written : Option Cell → List ℕ
+written (Some c) = cell_bytes c
+written None = []
 
 cases-written : map (λ (c : String × List ℕ). written (sent_cell (bytes c.0) 0)) cases ≡ map (λ (c : String × List ℕ). c.1) cases
 unfolding computing written cases
 cases-written = refl
 
 -- the place after a cell, and its text
-shown : ReadCell → List ℕ
-shown (Held c next) = next ∷ cell_text c
-shown Wrong = []
+shown : Option ReadCell → List ℕ
+shown (Some r) = r.next ∷ cell_text r.cell
+shown None = []
 
 cases-read :
     map (λ (c : String × List ℕ). shown (cell_in codes (c.1 ++ 7 ∷ []) 0)) cases
@@ -109,9 +109,9 @@ refused =
     ∷ (21 ∷ 133 ∷ [])
     ∷ []
 
-is_wrong : ReadCell → Bool
-is_wrong (Held c next) = false
-is_wrong Wrong = true
+is_wrong : Option ReadCell → Bool
+is_wrong (Some r) = false
+is_wrong None = true
 
 cases-refused : every (λ (s : List ℕ). is_wrong (cell_in codes s 0)) refused ≡ true
 unfolding computing is_wrong refused

@@ -13,11 +13,11 @@ use Rattle.laws.specs.Tables.{every}
 use Rattle.laws.proofs.Tests.{both_left, both_right, choose-true}
 use Rattle.fields.specs.Kinds.{is_signed}
 use Rattle.fields.specs.declared.kinds.Kind.{Kind}
-use Rattle.fields.specs.declared.rows.Parsed.{Parsed}
+use Rattle.std.specs.Prelude.{Option, Some, None}
 use Rattle.varint.specs.Groups.{groups, number_at}
 use Rattle.varint.specs.Signs.{folded, unfolded}
 use Rattle.varint.specs.declared.groups.Reading.{Reading}
-use Rattle.varint.specs.declared.groups.Reading.TheVariants.{Found, Refused}
+use Rattle.packed.specs.declared.rows.Row.{Row}
 use Rattle.format.specs.Formats.{fields_of, known, field_count, signed_from, signed_place}
 use Rattle.format.proofs.Entries.{fields-by}
 use Rattle.packed.specs.Rows.{number_for, value_for, row_bytes, on_reading, row_from, read_row}
@@ -60,9 +60,9 @@ laid-row ks signed vs a h = row_laid ks signed 0 vs a (omega arith)
 -- ---- read
 
 on-each :
-    (f g : ℕ → ℕ → Parsed) → ((n next : ℕ) → f n next ≡ g n next) → (r : Reading) → on_reading r f ≡ on_reading r g
-on-each f g h (Found n next) = h n next
-on-each f g h Refused = refl
+    (f g : ℕ → ℕ → Option Row) → ((n next : ℕ) → f n next ≡ g n next) → (r : Option Reading) → on_reading r f ≡ on_reading r g
+on-each f g h (Some r) = h r.value r.next
+on-each f g h None = refl
 
 from-laid :
     (ks : List Kind) (signed : ℕ) (s : List ℕ) (at i : ℕ) (vs : List ℕ) → agrees_from i ks signed ≡ true →

@@ -14,15 +14,16 @@ use Rattle.laws.proofs.Writing.{sets-front}
 use Rattle.fields.specs.Kinds.{is_signed}
 use Rattle.fields.specs.Rows.{all_good, all_valid}
 use Rattle.fields.specs.declared.kinds.Kind.{Kind}
-use Rattle.fields.specs.declared.rows.Parsed.{Parsed}
+use Rattle.std.specs.Prelude.{Option, Some, None}
+use Rattle.std.proofs.lemmas.Option.{same_Some}
 use Rattle.fields.proofs.Bounds.{valid-small}
-use Rattle.varint.specs.Groups.{groups, number_at}
+use Rattle.varint.specs.Groups.{groups, number_at, found}
 use Rattle.varint.specs.Signs.{folded, unfolded}
 use Rattle.varint.specs.declared.groups.Reading.{Reading}
-use Rattle.varint.specs.declared.groups.Reading.TheVariants.{Found, Refused}
+use Rattle.packed.specs.declared.rows.Row.{Row}
 use Rattle.varint.proofs.RoundTrip.{length-groups, number-back, number-stands}
 use Rattle.varint.proofs.Folding.{folded-small, unfold-fold, fold-unfold}
-use Rattle.packed.specs.Rows.{number_for, value_for, row_bytes, on_reading, row_from, read_row}
+use Rattle.packed.specs.Rows.{number_for, value_for, row_bytes, row, on_reading, row_from, read_row}
 
 -- ---- how many bytes
 
@@ -61,7 +62,7 @@ number-value k n h = either-forth (is_signed k) n h
 -- ---- what is written is read
 
 from_step :
-    (k : Kind) (ks : List Kind) (s vs : List ℕ) (at i n next : ℕ) {v : ℕ} → number_at s at ≡ Found n next → v ≡ value_for k n →
+    (k : Kind) (ks : List Kind) (s vs : List ℕ) (at i n next : ℕ) {v : ℕ} → number_at s at ≡ found n next → v ≡ value_for k n →
     row_from (k ∷ ks) s at i vs ≡ row_from ks s next (suc i) (set vs i v)
 unfolding row_from
 from_step k ks s vs at i n next e w = rw (e, ← w)
@@ -69,10 +70,10 @@ from_step k ks s vs at i n next e w = rw (e, ← w)
 from_back :
     (ks : List Kind) (vs pre rest l : List ℕ) (i : ℕ) → all_good ks ≡ true → all_valid ks vs ≡ true →
     row_from ks (pre ++ (row_bytes ks vs ++ rest)) (length pre) i l
-    ≡ record { ok = true; at = length pre + length (row_bytes ks vs); values = sets l i (take (length ks) vs) }
+    ≡ row (sets l i (take (length ks) vs)) (length pre + length (row_bytes ks vs))
 unfolding row_from row_bytes all_good every all_valid
-from_back [] vs pre rest l i g t = ap (λ (a : ℕ). record { ok = true; at = a; values = l }) (omega arith)
-from_back (k ∷ ks) [] pre rest l i g t = let z : ◌≡◌ {A = ℕ} 0 1 = cc in absurd (omega arith)
+from_back [] vs pre rest l i g t = ap (row l) (omega arith)
+from_back (k ∷ ks) [] pre rest l i g t = absurd (cc)
 from_back (k ∷ ks) (v ∷ vs) pre rest l i g t =
     let d = groups (number_for k v) in
     let p = row_bytes ks vs in
@@ -85,26 +86,26 @@ from_back (k ∷ ks) (v ∷ vs) pre rest l i g t =
     ∙ ap (λ (x : List ℕ). row_from ks x (length pre + length d) (suc i) (set l i v)) (sym (append_assoc pre d (p ++ rest)))
     ∙ ap (λ (a : ℕ). row_from ks ((pre ++ d) ++ (p ++ rest)) a (suc i) (set l i v)) (sym long)
     ∙ after
-    ∙ ap (λ (a : ℕ). record { ok = true; at = a; values = sets (set l i v) (suc i) (take (length ks) vs) }) (omega (arith, long, length-append d p))
+    ∙ ap (row (sets (set l i v) (suc i) (take (length ks) vs))) (omega (arith, long, length-append d p))
 
 pub row_back :
     (ks : List Kind) (vs pre rest : List ℕ) → all_good ks ≡ true → all_valid ks vs ≡ true → length ks ≤ 6 → length ks ≤ length vs →
     read_row ks (pre ++ (row_bytes ks vs ++ rest)) (length pre)
-    ≡ record { ok = true; at = length pre + length (row_bytes ks vs); values = sets (replicate 6 0) 0 (take (length ks) vs) }
+    ≡ row (sets (replicate 6 0) 0 (take (length ks) vs)) (length pre + length (row_bytes ks vs))
 unfolding read_row
 row_back ks vs pre rest g t few long = from_back ks vs pre rest (replicate 6 0) 0 g t
 
 -- ---- what is read was written
 
 -- the values ws, stored in l from place i on, are those of the bytes from place at to the place reached
-record Held (ks : List Kind) (s : List ℕ) (at i : ℕ) (l : List ℕ) (p : Parsed) : Type 0 where
+record Held (ks : List Kind) (s : List ℕ) (at i : ℕ) (l : List ℕ) (p : Row) : Type 0 where
   ws : List ℕ
   many : length ks ≡ length ws
   stored : p.values ≡ sets l i ws
-  bytes : drop at s ≡ row_bytes ks ws ++ drop p.at s
+  bytes : drop at s ≡ row_bytes ks ws ++ drop p.next s
 
 held-step :
-    (k : Kind) (ks : List Kind) (s l : List ℕ) (at i n next : ℕ) (p : Parsed) → number_at s at ≡ Found n next →
+    (k : Kind) (ks : List Kind) (s l : List ℕ) (at i n next : ℕ) (p : Row) → number_at s at ≡ found n next →
     Held ks s next (suc i) (set l i (value_for k n)) p → Held (k ∷ ks) s at i l p
 unfolding row_bytes
 held-step k ks s l at i n next p e h =
@@ -117,24 +118,31 @@ held-step k ks s l at i n next p e h =
       many = ap suc h.many;
       stored = h.stored;
       bytes =
-          d.bytes ∙ ap (λ (z : List ℕ). groups n ++ z) h.bytes ∙ sym (append_assoc (groups n) b (drop p.at s))
-          ∙ ap (λ (z : List ℕ). (z ++ b) ++ drop p.at s) same;
+          d.bytes ∙ ap (λ (z : List ℕ). groups n ++ z) h.bytes ∙ sym (append_assoc (groups n) b (drop p.next s))
+          ∙ ap (λ (z : List ℕ). (z ++ b) ++ drop p.next s) same;
     }
 
 -- a row's result, by the cases of the first number; f is what follows it
 on-held :
-    (k : Kind) (ks : List Kind) (s l : List ℕ) (at i : ℕ) (f : ℕ → ℕ → Parsed) →
-    ((n next : ℕ) → (f n next).ok ≡ true → Held ks s next (suc i) (set l i (value_for k n)) (f n next)) →
-    (r : Reading) → number_at s at ≡ r → (on_reading r f).ok ≡ true → Held (k ∷ ks) s at i l (on_reading r f)
-on-held k ks s l at i f h Refused e t = let z : ◌≡◌ {A = ℕ} 0 1 = cc in absurd (omega arith)
-on-held k ks s l at i f h (Found n next) e t = held-step k ks s l at i n next (f n next) e (h n next t)
+    (k : Kind) (ks : List Kind) (s l : List ℕ) (at i : ℕ) (p : Row) (f : ℕ → ℕ → Option Row) →
+    ((n next : ℕ) → f n next ≡ Some p → Held ks s next (suc i) (set l i (value_for k n)) p) →
+    (r : Option Reading) → number_at s at ≡ r → on_reading r f ≡ Some p → Held (k ∷ ks) s at i l p
+on-held k ks s l at i p f h None e t = absurd (cc)
+on-held k ks s l at i p f h (Some r) e t = held-step k ks s l at i r.value r.next p e (h r.value r.next t)
 
-from-held : (ks : List Kind) (s l : List ℕ) (at i : ℕ) → (row_from ks s at i l).ok ≡ true → Held ks s at i l (row_from ks s at i l)
+from-held : (ks : List Kind) (s l : List ℕ) (at i : ℕ) (p : Row) → row_from ks s at i l ≡ Some p → Held ks s at i l p
 unfolding row_from row_bytes
-from-held [] s l at i t = record { ws = []; many = refl; stored = refl; bytes = refl }
-from-held (k ∷ ks) s l at i t =
-    on-held k ks s l at i (λ n next. row_from ks s next (suc i) (set l i (value_for k n)))
-    (λ n next. from-held ks s (set l i (value_for k n)) next (suc i)) (number_at s at) refl t
+from-held [] s l at i p t =
+    let e = same_Some (record { values = l; next = at }) p t in
+    record {
+      ws = [];
+      many = refl;
+      stored = sym (ap (λ (r : Row). r.values) e);
+      bytes = ap (λ (r : Row). drop r.next s) e;
+    }
+from-held (k ∷ ks) s l at i p t =
+    on-held k ks s l at i p (λ n next. row_from ks s next (suc i) (set l i (value_for k n)))
+    (λ n next. from-held ks s (set l i (value_for k n)) next (suc i) p) (number_at s at) refl t
 
 -- values past a row are not written
 bytes-front : (ks : List Kind) (ws rest : List ℕ) → length ks ≡ length ws → row_bytes ks (ws ++ rest) ≡ row_bytes ks ws
@@ -144,18 +152,17 @@ bytes-front (k ∷ ks) [] rest n = absurd (omega arith)
 bytes-front (k ∷ ks) (w ∷ ws) rest n = ap (λ (z : List ℕ). groups (number_for k w) ++ z) (bytes-front ks ws rest (omega arith))
 
 -- a row that is read: its values are six, and what is written for them stands there. Whether the kinds admit them is not asked
-pub record RowStands (ks : List Kind) (s : List ℕ) (at : ℕ) (p : Parsed) : Type 0 where
+pub record RowStands (ks : List Kind) (s : List ℕ) (at : ℕ) (p : Row) : Type 0 where
   pub six : length p.values ≡ 6
-  pub bytes : drop at s ≡ row_bytes ks p.values ++ drop p.at s
+  pub bytes : drop at s ≡ row_bytes ks p.values ++ drop p.next s
 
-pub row-stands : (ks : List Kind) (s : List ℕ) (at : ℕ) → length ks ≤ 6 → (read_row ks s at).ok ≡ true → RowStands ks s at (read_row ks s at)
+pub row-stands : (ks : List Kind) (s : List ℕ) (at : ℕ) (p : Row) → length ks ≤ 6 → read_row ks s at ≡ Some p → RowStands ks s at p
 unfolding read_row
-row-stands ks s at h t =
-    let q = from-held ks s (replicate 6 0) at 0 t in
+row-stands ks s at p h t =
+    let q = from-held ks s (replicate 6 0) at 0 p t in
     let zeros : List ℕ = drop (length q.ws) (replicate 6 0) in
     let e = q.stored ∙ sets-front (replicate 6 0) q.ws (omega (arith, q.many)) in
     record {
       six = ap length q.stored ∙ length-sets (replicate 6 0) 0 q.ws;
-      bytes = q.bytes ∙ ap (λ (z : List ℕ). z ++ drop (row_from ks s at 0 (replicate 6 0)).at s)
-          (sym (ap (row_bytes ks) e ∙ bytes-front ks q.ws zeros q.many));
+      bytes = q.bytes ∙ ap (λ (z : List ℕ). z ++ drop p.next s) (sym (ap (row_bytes ks) e ∙ bytes-front ks q.ws zeros q.many));
     }

@@ -4,17 +4,16 @@ use Prim.Native.Nat.{ℕ, suc, ◌+◌, ◌-◌, ◌≤◌, ◌<◌}
 use native.Mathlib.Numerals.{add-one}
 use native.Mathlib.Omega.{arith}
 use mathlib.Core.Path.{◌≡◌, sym, ap, ◌∙◌}
-use mathlib.Core.Bool.{true}
 use mathlib.Core.List.{List, [], ◌++◌}
 use lib.Dec.{eqb}
 use lib.ListN.{get_or, set, replicate}
 use borrow.Author.Tests.{eq-eqb, ne_eqb}
 use Rattle.laws.specs.Tests.{choose}
 use Rattle.laws.proofs.Tests.{choose-true, choose-false}
-use Rattle.fields.specs.Rows.{refusal}
-use Rattle.varint.specs.Groups.{groups, number_at}
+use Rattle.std.specs.Prelude.{None}
+use Rattle.varint.specs.Groups.{groups, number_at, found}
 use Rattle.varint.specs.Signs.{folded, unfolded}
-use Rattle.varint.specs.declared.groups.Reading.TheVariants.{Found, Refused}
+use Rattle.packed.specs.Rows.{row}
 use Rattle.packed.specs.Layout.{laid_from, laid, laid_read_from, laid_read}
 
 -- what is left at place i is one and what is left after it
@@ -53,12 +52,12 @@ unfolding laid_read
 read-start count signed s from = ap (λ (k : ℕ). laid_read_from k signed s from 0 (replicate 6 0)) (sym (none-less count))
 
 pub read-refused :
-    (count signed : ℕ) (s vs : List ℕ) (i at : ℕ) → i < count → number_at s at ≡ Refused → laid_read_from (count - i) signed s at i vs ≡ refusal
+    (count signed : ℕ) (s vs : List ℕ) (i at : ℕ) → i < count → number_at s at ≡ None → laid_read_from (count - i) signed s at i vs ≡ None
 unfolding laid_read_from
 read-refused count signed s vs i at h e = ap (λ (k : ℕ). laid_read_from k signed s at i vs) (less count i h) ∙ rw e
 
 pub read_next :
-    (count signed : ℕ) (s vs : List ℕ) (i at n next : ℕ) {v : ℕ} → i < count → number_at s at ≡ Found n next →
+    (count signed : ℕ) (s vs : List ℕ) (i at n next : ℕ) {v : ℕ} → i < count → number_at s at ≡ found n next →
     v ≡ choose (eqb i signed) (unfolded n) n →
     laid_read_from (count - i) signed s at i vs ≡ laid_read_from (count - (i + 1)) signed s next (i + 1) (set vs i v)
 unfolding laid_read_from
@@ -66,6 +65,6 @@ read_next count signed s vs i at n next h e w = ap (λ (k : ℕ). laid_read_from
 
 pub read-end :
     (count signed : ℕ) (s vs : List ℕ) (i at : ℕ) → count ≤ i →
-    laid_read_from (count - i) signed s at i vs ≡ record { ok = true; at = at; values = vs }
+    laid_read_from (count - i) signed s at i vs ≡ row vs at
 unfolding laid_read_from
 read-end count signed s vs i at h = let e : count - i ≡ 0 = omega arith in rw e

@@ -1,17 +1,16 @@
 // Rows of numbers by their outline: how many there are, and the place of the one with a sign. One
-// loop writes them, another reads them into lent places.
+// loop writes them, another reads them.
 ghost use Rattle.std.specs.Prelude.{◌≡◌, ◌≤◌};
 ghost use Rattle.laws.specs.Writing.{Put};
-ghost use Rattle.packed.specs.Layout.{laid, laid_read, parsed_as, Writable};
+ghost use Rattle.packed.specs.Layout.{laid, laid_read, Writable};
 
-use varint::groups::Reading;
 use varint::{groups, signs};
 
-// The place after what was read, or that it is wrong.
+// The numbers of a row, zeros after them, and the place after it.
 #[derive(Clone, Copy)]
-pub enum Next {
-    At(usize),
-    Wrong,
+pub struct Row {
+    pub values: [u32; 6],
+    pub next: usize,
 }
 
 // The numbers of a row, from a place on; hands back the place after them.
@@ -21,38 +20,32 @@ pub fn put_row(buf: &mut [u8], from: usize, count: usize, signed: usize, values:
         (laid count signed values.now) from result }
 {
     let mut at = from;
-    let mut i = 0;
-    while i < count {
-        let mut n = values[i];
-        if i == signed {
-            n = signs::fold_sign(n);
-        }
+    for (i, v) in values[..count].iter().enumerate() {
+        let n = if i == signed {
+            signs::fold_sign(*v)
+        } else {
+            *v
+        };
         at = groups::put_number(buf, at, n);
-        i += 1;
     }
     at
 }
 
-// Reads the numbers of a row into six places, zeros after them.
-pub fn read_row(s: &[u8], from: usize, count: usize, signed: usize, values: &mut [u32; 6]) -> Next
+// Reads the numbers of a row.
+pub fn read_row(s: &[u8], from: usize, count: usize, signed: usize) -> Option<Row>
     requires { count ≤ 6 }
-    ensures { parsed_as result values.new ≡
-        laid_read count signed s.now from }
+    ensures { result ≡ laid_read count signed s.now from }
 {
-    *values = [0u32; 6];
+    let mut values = [0u32; 6];
     let mut at = from;
-    let mut i = 0;
-    while i < count {
-        let Reading::Found { value, next } = groups::read_number(s, at) else {
-            return Next::Wrong;
+    for (i, v) in values[..count].iter_mut().enumerate() {
+        let read = groups::read_number(s, at)?;
+        *v = if i == signed {
+            signs::unfold_sign(read.value)
+        } else {
+            read.value
         };
-        let mut v = value;
-        if i == signed {
-            v = signs::unfold_sign(v);
-        }
-        values[i] = v;
-        at = next;
-        i += 1;
+        at = read.next;
     }
-    Next::At(at)
+    Some(Row { values, next: at })
 }

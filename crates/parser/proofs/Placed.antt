@@ -23,15 +23,15 @@ use Rattle.fields.proofs.Validity.{fields-valid, all_valid_lem}
 use Rattle.format.specs.Formats.{cell}
 use Rattle.instruction.specs.Numbers.{byte_of}
 use Rattle.instruction.specs.Texts.{sent_cell}
-use Rattle.instruction.specs.declared.text.Sent.{Sent}
-use Rattle.instruction.specs.declared.text.Sent.TheVariants.{Held}
-use Rattle.instruction.specs.declared.text.Sent.TheVariants as sent
+use Rattle.instruction.specs.declared.Cell.{Cell}
+use Rattle.std.specs.declared.option.Option.{Option}
+use Rattle.std.specs.declared.option.Option.TheVariants.{Some, None}
 use Rattle.instruction.proofs.Sending.{sent-sound}
 use Rattle.units.specs.declared.CellAddress.{CellAddress}
 use Rattle.machine.specs.Soundness.{is_cell}
 use Rattle.machine.specs.Commands.{fields_at, on_all, on_sent, store_in, preset_in, cam_with, cam_in, command_by, placed}
 use Rattle.machine.specs.declared.commands.Command.{Command}
-use Rattle.machine.proofs.Ranges.{first-valid, address-cell, on-fields}
+use Rattle.machine.proofs.Ranges.{first-valid, address-cell, on-parsed, on-fields}
 
 abbrev Placed : Command → Type 0
 Placed c = placed c ≡ true
@@ -52,21 +52,21 @@ module _ (s : List ℕ) where
       (ks : List Kind) (f : List ℕ → Command) → all_good ks ≡ true → length ks ≤ 6 →
       ((vs : List ℕ) → all_valid ks vs ≡ true → Placed (f vs)) → Placed (on_all ks s f)
   unfolding on_all placed
-  on-all ks f g h p = on-fields Placed (parse_all ks s fields_at) f (λ t. p _ (all_valid_lem ks s fields_at g h t)) refl
+  on-all ks f g h p = on-fields Placed (parse_all ks s fields_at) f (λ q t. p _ (all_valid_lem ks s fields_at q g h t)) refl
 
-  on-sent : (a : CellAddress) (from : ℕ) → is_cell a ≡ true → (x : Sent) → sent_cell s from ≡ x → Placed (on_sent a x)
+  on-sent : (a : CellAddress) (from : ℕ) → is_cell a ≡ true → (x : Option Cell) → sent_cell s from ≡ x → Placed (on_sent a x)
   unfolding on_sent placed
-  on-sent a from h (Held d) e = both_true h (sent-sound s from d e)
-  on-sent a from h sent.Wrong e = refl
+  on-sent a from h (Some d) e = both_true h (sent-sound s from d e)
+  on-sent a from h None e = refl
 
   store-placed : Placed (store_in s (parse_fields (cell ∷ []) s fields_at))
   unfolding store_in placed all_good every good both
   store-placed =
-      on-fields Placed _ _ (λ t. on-sent _ _ (address-cell _ (fields-valid (cell ∷ []) s fields_at refl (lit≤ tt) t)) _ refl) refl
+      on-parsed Placed _ _ (λ p t. on-sent _ _ (address-cell _ (fields-valid (cell ∷ []) s fields_at p refl (lit≤ tt) t)) _ refl) refl
 
   preset-placed : Placed (preset_in s (parse_fields (Name Presets ∷ []) s fields_at))
   unfolding preset_in placed
-  preset-placed = on-fields Placed _ _ (λ t. on-fields Placed _ _ (λ u. refl) refl) refl
+  preset-placed = on-parsed Placed _ _ (λ p t. on-fields Placed _ _ (λ q u. refl) refl) refl
 
   cam-placed : Placed (cam_in s)
   unfolding cam_in cam_with placed all_good every good good_signed both

@@ -3,47 +3,49 @@ ghost use Rattle.std.specs.Prelude.{◌≡◌};
 ghost use Rattle.machine.specs.Commands.{preset_with, cam_with, cam_in};
 ghost use Rattle.parser.specs.Fields.{store_of, preset_of, output_of};
 
+use crate::FIELDS;
 use crate::naming::cell_field;
-use crate::row::{FIELDS, row};
 use fields::kinds::Kind;
 use fields::names::Names;
 use fields::rows;
 use instruction::text;
-use instruction::text::Sent;
 use machine::commands::{Command, PresetValue, preset_kind, resolution_at};
 use units::{CellAddress, DriveAddress};
 
+// V.
+const BIT: Kind = Kind::Fixed(1, 0, 1);
+
 // WN: a cell's address, and the cell.
+#[tactic(auto, unfolding(machine::specs::Commands::store_in, machine::specs::Commands::on_parsed, machine::specs::Commands::on_sent))]
 pub fn store_in(s: &[u8]) -> Command
     ensures { result ≡ store_of s.now }
 {
-    let p = cell_field(s);
-    if !p.ok {
+    let Some(named) = cell_field(s) else {
         return Command::Wrong;
-    }
-    let at = CellAddress((p.values[0] % 256) as u8);
-    let sent = text::read_cell(s, p.at);
-    match sent {
-        Sent::Held(cell) => Command::Store { at, cell },
-        Sent::Wrong => Command::Wrong,
+    };
+    let Some(cell) = text::read_cell(s, named.at) else {
+        return Command::Wrong;
+    };
+    Command::Store {
+        at: CellAddress((named.values[0] % 256) as u8),
+        cell,
     }
 }
 
 // WS: a preset's name, and a value of its kind.
+#[tactic(auto, unfolding(machine::specs::Commands::preset_in, machine::specs::Commands::on_fields, machine::specs::Commands::on_parsed))]
 pub fn preset_in(s: &[u8]) -> Command
     ensures { result ≡ preset_of s.now }
 {
-    let p = rows::parse_fields(row(1, Kind::Name(Names::Presets), Kind::Next), s, FIELDS);
-    if !p.ok {
+    let Some(named) = rows::parse_fields(&[Kind::Name(Names::Presets)], s, FIELDS) else {
         return Command::Wrong;
-    }
-    let k = p.values[0];
-    let v = rows::parse_all(row(1, preset_kind(k), Kind::Next), s, p.at);
-    if !v.ok {
+    };
+    let preset = named.values[0];
+    let Some(sent) = rows::parse_all(&[preset_kind(preset)], s, named.at) else {
         return Command::Wrong;
-    }
+    };
     Command::SetPreset {
-        value: preset_with(k, v.values[0]),
+        value: preset_with(preset, sent.values[0]),
     }
 }
 
@@ -63,17 +65,14 @@ fn preset_with(preset: u32, value: u32) -> PresetValue
 }
 
 // SO: an output's name, and whether it is on.
+#[tactic(auto, unfolding(machine::specs::Commands::on_all, machine::specs::Commands::on_fields, machine::specs::Commands::on_parsed))]
 pub fn output_in(s: &[u8]) -> Command
     ensures { result ≡ output_of s.now }
 {
-    let p = rows::parse_all(
-        row(2, Kind::Name(Names::Settable), Kind::Fixed(1, 0, 1)),
-        s,
-        FIELDS,
-    );
-    if !p.ok {
+    let kinds = [Kind::Name(Names::Settable), BIT];
+    let Some(p) = rows::parse_all(&kinds, s, FIELDS) else {
         return Command::Wrong;
-    }
+    };
     Command::SetOutput {
         output: (p.values[0] % 256) as u8,
         on: p.values[1] == 1,
@@ -81,37 +80,30 @@ pub fn output_in(s: &[u8]) -> Command
 }
 
 // A cam, which has position 0 where it is unset.
+#[tactic(auto, unfolding(machine::specs::Commands::cam_with, laws::specs::Tests::choose))]
 fn cam_with(set: bool, bits: u32) -> Command
     ensures { result ≡ cam_with set bits }
 {
-    if set {
-        return Command::SetCam { set, bits };
+    Command::SetCam {
+        set,
+        bits: if set { bits } else { 0 },
     }
-    Command::SetCam { set, bits: 0 }
 }
 
 // SC: whether the cam is set, and its position; `SC,0` may end there.
+#[tactic(auto, unfolding(machine::specs::Commands::cam_in, machine::specs::Commands::on_all, machine::specs::Commands::on_fields, machine::specs::Commands::on_parsed, laws::specs::Tests::choose))]
 pub fn cam_in(s: &[u8]) -> Command
     ensures { result ≡ cam_in s.now }
 {
-    let off = rows::parse_all(row(1, Kind::Fixed(1, 0, 0), Kind::Next), s, FIELDS);
-    if off.ok {
+    if rows::parse_all(&[Kind::Fixed(1, 0, 0)], s, FIELDS).is_some() {
         return Command::SetCam {
             set: false,
             bits: 0,
         };
     }
-    let p = rows::parse_all(
-        row(
-            2,
-            Kind::Fixed(1, 0, 1),
-            Kind::Signed(0x8000_0000, 0x7fff_ffff),
-        ),
-        s,
-        FIELDS,
-    );
-    if !p.ok {
+    let kinds = [BIT, Kind::Signed(0x8000_0000, 0x7fff_ffff)];
+    let Some(p) = rows::parse_all(&kinds, s, FIELDS) else {
         return Command::Wrong;
-    }
+    };
     cam_with(p.values[0] == 1, p.values[1])
 }

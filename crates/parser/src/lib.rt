@@ -12,8 +12,13 @@ use single::Single;
 
 mod commands;
 pub mod naming;
-mod row;
 mod single;
+
+// The fields begin after the address and the code.
+const FIELDS: usize = 4;
+
+// BBB.
+const CELL: Kind = Kind::Fixed(3, 100, 230);
 
 // What a string of this code asks for, or that it is wrong.
 pub fn read_command(code: u16, s: &[u8]) -> Command
@@ -23,7 +28,7 @@ pub fn read_command(code: u16, s: &[u8]) -> Command
     match code {
         codes::WN => commands::store_in(s),
         codes::WS => commands::preset_in(s),
-        codes::PS => single::single_of(Single::Start, Kind::Fixed(3, 100, 230), s),
+        codes::PS => single::single_of(Single::Start, CELL, s),
         codes::EE => single::alone(Command::EmergencyStop, s),
         codes::ES => single::alone(Command::FreeRunStop, s),
         codes::SA => single::single_of(
@@ -37,7 +42,7 @@ pub fn read_command(code: u16, s: &[u8]) -> Command
         codes::QS => single::single_of(Single::AskPreset, Kind::Name(Names::Presets), s),
         codes::QI => single::single_of(Single::AskInput, Kind::Name(Names::Inputs), s),
         codes::QO => single::single_of(Single::AskOutput, Kind::Name(Names::Outputs), s),
-        codes::QM => single::single_of(Single::AskCell, Kind::Fixed(3, 100, 230), s),
+        codes::QM => single::single_of(Single::AskCell, CELL, s),
         codes::QC => single::alone(Command::AskCam, s),
         codes::QE => single::alone(Command::AskFault, s),
         codes::QR => single::alone(Command::AskSuspended, s),

@@ -2,7 +2,7 @@
 ghost use Rattle.std.specs.Prelude.{◌≡◌};
 ghost use Rattle.parser.specs.Fields.{alone_of, single_with, single_of};
 
-use crate::row::{FIELDS, row};
+use crate::FIELDS;
 use fields::kinds::Kind;
 use fields::rows;
 use machine::commands::Command;
@@ -20,14 +20,14 @@ pub enum Single {
 }
 
 // A command or request that has no field.
+#[tactic(auto, unfolding(machine::specs::Commands::on_all, machine::specs::Commands::on_fields, machine::specs::Commands::on_parsed))]
 pub fn alone(command: Command, s: &[u8]) -> Command
     ensures { result ≡ alone_of command s.now }
 {
-    let p = rows::parse_all(row(0, Kind::Next, Kind::Next), s, FIELDS);
-    if !p.ok {
-        return Command::Wrong;
+    match rows::parse_all(&[], s, FIELDS) {
+        Some(_) => command,
+        None => Command::Wrong,
     }
-    command
 }
 
 // What the value of the field asks for.
@@ -46,12 +46,12 @@ fn single_with(single: Single, v: u32) -> Command
 }
 
 // A command or request that has one field, of a kind.
+#[tactic(auto, unfolding(machine::specs::Commands::on_all, machine::specs::Commands::on_fields, machine::specs::Commands::on_parsed))]
 pub fn single_of(single: Single, kind: Kind, s: &[u8]) -> Command
     ensures { result ≡ single_of single kind s.now }
 {
-    let p = rows::parse_all(row(1, kind, Kind::Next), s, FIELDS);
-    if !p.ok {
-        return Command::Wrong;
+    match rows::parse_all(&[kind], s, FIELDS) {
+        Some(p) => single_with(single, p.values[0]),
+        None => Command::Wrong,
     }
-    single_with(single, p.values[0])
 }

@@ -14,13 +14,7 @@ use units::CellAddress;
 pub fn at_rest() -> Running
     ensures { result ≡ at_rest }
 {
-    Running {
-        cell: CellAddress(0),
-        phase: Phase::Waiting,
-        remaining: Remaining::Nothing,
-        loops: 0,
-        at_speed: false,
-    }
+    waiting_at(CellAddress(0), 0)
 }
 
 pub fn waiting_at(cell: CellAddress, loops: u16) -> Running
@@ -39,40 +33,36 @@ pub fn waiting_at(cell: CellAddress, loops: u16) -> Running
 pub fn stopped(mut state: State) -> State
     ensures { result ≡ stopped_of state }
 {
-    let running = at_rest();
-    state.running = running;
+    state.running = at_rest();
     state
 }
 
 pub fn started(mut state: State, at: CellAddress) -> State
     ensures { result ≡ started_of state at }
 {
-    let fault = Fault {
-        code: 0,
-        cell: CellAddress(0),
-    };
-    let running = waiting_at(at, 0);
-    state.fault = fault;
-    state.running = running;
+    state.fault = Fault::NONE;
+    state.running = waiting_at(at, 0);
     state
 }
 
 // The running part after a cell is passed: at the next cell, or at rest where that is 000.
+#[tactic(auto, unfolding(crate::specs::Passing::passed_to, laws::specs::Tests::choose))]
 pub fn passed(next: CellAddress, loops: u16) -> Running
     ensures { result ≡ passed_to next loops }
 {
     if next.0 == 0 {
-        return at_rest();
+        at_rest()
+    } else {
+        waiting_at(next, loops)
     }
-    waiting_at(next, loops)
 }
 
 // Goes on to the next cell, or ends at 000.
+#[tactic(auto, using(crate::proofs::Passing::passing))]
 pub fn advanced(mut state: State, next: CellAddress) -> State
     ensures { result ≡ advanced_of state next }
 {
-    let running = passed(next, state.running.loops);
-    state.running = running;
+    state.running = passed(next, state.running.loops);
     state
 }
 
@@ -81,8 +71,7 @@ pub fn failed(mut state: State, code: u8) -> State
     ensures { result ≡ failed_of state code }
 {
     let cell = state.running.cell;
-    let fault = Fault { code, cell };
-    state.fault = fault;
+    state.fault = Fault { code, cell };
     stopped(state)
 }
 
@@ -90,17 +79,8 @@ pub fn failed(mut state: State, code: u8) -> State
 pub fn in_phase(mut state: State, phase: Phase, remaining: Remaining) -> State
     ensures { result ≡ in_phase state phase remaining }
 {
-    let cell = state.running.cell;
-    let loops = state.running.loops;
-    let at_speed = state.running.at_speed;
-    let running = Running {
-        cell,
-        phase,
-        remaining,
-        loops,
-        at_speed,
-    };
-    state.running = running;
+    state.running.phase = phase;
+    state.running.remaining = remaining;
     state
 }
 
@@ -108,44 +88,26 @@ pub fn in_phase(mut state: State, phase: Phase, remaining: Remaining) -> State
 pub fn entered(mut state: State, phase: Phase, remaining: Remaining) -> State
     ensures { result ≡ entered_of state phase remaining }
 {
-    let cell = state.running.cell;
-    let loops = state.running.loops;
-    let running = Running {
-        cell,
-        phase,
-        remaining,
-        loops,
-        at_speed: false,
-    };
-    state.running = running;
-    state
+    state.running.at_speed = false;
+    in_phase(state, phase, remaining)
 }
 
+#[tactic(auto, unfolding(machine::specs::Record::idle))]
 pub fn idle(state: State) -> bool
     ensures { result ≡ idle_of state }
 {
-    let cell = state.running.cell;
-    cell.0 == 0
+    state.running.cell.0 == 0
 }
 
 pub fn under_way(phase: Phase) -> bool
     ensures { result ≡ under_way phase }
 {
-    match phase {
-        Phase::Waiting => false,
-        Phase::Delay => false,
-        Phase::Run => true,
-        Phase::Braking => true,
-        Phase::Slowing => true,
-        Phase::EmergencySlowing => true,
-        Phase::BackOff => true,
-    }
+    !matches!(phase, Phase::Waiting | Phase::Delay)
 }
 
+#[tactic(auto, unfolding(machine::specs::Record::moving))]
 pub fn moving(state: State) -> bool
     ensures { result ≡ moving_of state }
 {
-    let running = state.running;
-    let phase = running.phase;
-    under_way(phase)
+    under_way(state.running.phase)
 }

@@ -2,18 +2,16 @@
 -- 01's list for 58 and 63; a 69 has next 0)".
 -- The kinds of a code's parameters are those of its format.
 -- Assumes nothing.
-use Rattle.std.specs.Prelude.{ℕ, Bool, List, eqb, leb, get_or}
+use Rattle.std.specs.Prelude.{ℕ, Bool, List, eqb, leb, get_or, Option, Some, None}
 use Rattle.laws.specs.Tests.{choose, both, either}
 use Rattle.fields.specs.declared.kinds.Kind.{Kind}
 use Rattle.fields.specs.declared.kinds.Kind.TheVariants.{Fixed, Next, Count, Signed, Optional, Sign, Multiplier, Name}
-use Rattle.fields.specs.declared.rows.Row.{Row}
 use Rattle.format.specs.Formats.{format_of}
 use Rattle.frequency.specs.Places.{hertz_of, place_of}
 use Rattle.instruction.specs.Numbers.{six, is_one, with_next, cell_of}
 use Rattle.instruction.specs.declared.Cell.{Cell}
 use Rattle.instruction.specs.declared.Instruction.TheVariants.{CamSetting, Recovery}
 use Rattle.raw.specs.Integers.{fits_byte, fits_word, fits_long, fits_signed, long_of}
-use Rattle.raw.specs.declared.cells.Made.{Made}
 
 -- a frequency of 21 or 22 is held as its place in the table, so one that is not there cannot be
 unfoldable pub fits_hertz : ℕ → Bool
@@ -59,29 +57,33 @@ cell_holding code vs =
     choose (eqb code 57) (with_next (CamSetting (is_one (get_or vs 0 0)) (record { 0 = get_or vs 1 0 })) (get_or vs 2 0))
     (choose (eqb code 69) (with_next Recovery (get_or vs 0 0)) (cell_of (long_of code) vs))
 
--- the six numbers of a row: behind the code's own fields each kind is Next, and the integers there are 0; of a 69 the first is its next
-unfoldable pub numbers_in : Row → List ℕ → List ℕ
-numbers_in row n =
-    six (number_as row.k0 (get_or n 1 0)) (number_as row.k1 (get_or n 2 0)) (number_as row.k2 (get_or n 3 0))
-    (number_as row.k3 (get_or n 4 0)) (number_as row.k4 (get_or n 5 0)) (number_as row.k5 (get_or n 6 0))
+-- the kind at a place of a row: behind the code's own fields each is Next
+unfoldable pub kind_at : List Kind → ℕ → Kind
+kind_at ks i = get_or ks i Next
 
-unfoldable pub fits_row : Row → List ℕ → Bool
-fits_row row n =
+-- the six numbers of a row: the integers behind the code's own fields are 0; of a 69 the first is its next
+unfoldable pub numbers_in : List Kind → List ℕ → List ℕ
+numbers_in ks n =
+    six (number_as (kind_at ks 0) (get_or n 1 0)) (number_as (kind_at ks 1) (get_or n 2 0)) (number_as (kind_at ks 2) (get_or n 3 0))
+    (number_as (kind_at ks 3) (get_or n 4 0)) (number_as (kind_at ks 4) (get_or n 5 0)) (number_as (kind_at ks 5) (get_or n 6 0))
+
+unfoldable pub fits_row : List Kind → List ℕ → Bool
+fits_row ks n =
     both
     (both
     (both
     (both
-    (both (fits_kind (get_or n 0 0) row.k0 (get_or n 1 0)) (fits_kind (get_or n 0 0) row.k1 (get_or n 2 0)))
-    (fits_kind (get_or n 0 0) row.k2 (get_or n 3 0)))
-    (fits_kind (get_or n 0 0) row.k3 (get_or n 4 0)))
-    (fits_kind (get_or n 0 0) row.k4 (get_or n 5 0)))
-    (fits_kind (get_or n 0 0) row.k5 (get_or n 6 0))
+    (both (fits_kind (get_or n 0 0) (kind_at ks 0) (get_or n 1 0)) (fits_kind (get_or n 0 0) (kind_at ks 1) (get_or n 2 0)))
+    (fits_kind (get_or n 0 0) (kind_at ks 2) (get_or n 3 0)))
+    (fits_kind (get_or n 0 0) (kind_at ks 3) (get_or n 4 0)))
+    (fits_kind (get_or n 0 0) (kind_at ks 4) (get_or n 5 0)))
+    (fits_kind (get_or n 0 0) (kind_at ks 5) (get_or n 6 0))
 
--- the cell of seven integers, a code, its parameters and its next, and whether a record can hold it
-unfoldable pub made_of : List ℕ → Made
-made_of n =
-    record {
-      held =
-          both (both (fits_byte (get_or n 0 0)) (format_of (long_of (get_or n 0 0))).known) (fits_row (format_of (long_of (get_or n 0 0))).row n);
-      cell = cell_holding (get_or n 0 0) (numbers_in (format_of (long_of (get_or n 0 0))).row n);
-    }
+-- the cell of seven integers, a code, its parameters and its next, where a record can hold it
+abbrev pub made_with : List ℕ → Option (List Kind) → Option Cell
+made_with n (Some ks) =
+    choose (both (fits_byte (get_or n 0 0)) (fits_row ks n)) (Some (cell_holding (get_or n 0 0) (numbers_in ks n))) None
+made_with n None = None
+
+unfoldable pub made_of : List ℕ → Option Cell
+made_of n = made_with n (format_of (long_of (get_or n 0 0)))

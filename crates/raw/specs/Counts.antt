@@ -1,6 +1,6 @@
 -- What remains of a delay or a run: as an integer, and back, with the unit that the record gives it.
 -- Assumes nothing.
-use Rattle.std.specs.Prelude.{ℕ, Bool, true, false, List, eqb}
+use Rattle.std.specs.Prelude.{ℕ, Bool, true, false, List, eqb, Option, Some, None}
 use Rattle.laws.specs.Tests.{choose, both}
 use Rattle.units.specs.Bits.{steps_of, bits_of}
 use Rattle.units.specs.declared.CellAddress.{CellAddress}
@@ -15,9 +15,7 @@ use Rattle.machine.specs.declared.State.{State}
 use Rattle.machine.specs.declared.Suspended.{Suspended}
 use Rattle.machine.specs.declared.Running.{Running}
 use Rattle.raw.specs.Integers.{fits_long, fits_signed, long_of, extended}
-use Rattle.raw.specs.declared.remaining.Count.{Count}
 use Rattle.raw.specs.declared.remaining.Counts.{Counts}
-use Rattle.raw.specs.declared.remaining.Counted.{Counted as CountedState}
 
 -- a remaining count as an integer; nothing is 0
 unfoldable pub integer_of : Remaining → ℕ
@@ -45,11 +43,11 @@ holds_delay cells a = both (is_cell a) (is_delay (cell_at cells a).instruction)
 
 -- docs/SCRIPTS.md: "0 is nothing. Any other number is milliseconds where .. else steps"; "Negative milliseconds are unrepresentable".
 -- Both have 32 bits, steps with a sign.
-unfoldable pub count_of : Bool → ℕ → Count
+unfoldable pub count_of : Bool → ℕ → Option Remaining
 count_of timed v =
-    choose (eqb v 0) (record { fits = true; remaining = Nothing })
-    (choose timed (record { fits = fits_long v; remaining = Timed (record { 0 = long_of v }) })
-    (record { fits = fits_signed v; remaining = Counted (steps_of (long_of v)) }))
+    choose (eqb v 0) (Some Nothing)
+    (choose timed (choose (fits_long v) (Some (Timed (record { 0 = long_of v }))) None)
+    (choose (fits_signed v) (Some (Counted (steps_of (long_of v)))) None))
 
 -- a state with other remaining counts
 abbrev pub suspended_with : Suspended → Remaining → Suspended
@@ -62,14 +60,15 @@ running_with r y =
 abbrev pub with_counts : State → Remaining → Remaining → State
 with_counts s from left = with_running (with_suspended s (suspended_with s.suspended from)) (running_with s.running left)
 
--- a state with both counts in their units, and whether it holds them: that of the interrupted record is one of milliseconds where timed,
+-- a state with both counts in their units, where it can hold them: that of the interrupted record is one of milliseconds where timed,
 -- that of the program under way where the phase is delay
-abbrev pub running_count : State → Counts → Count
+unfoldable pub with_both : State → Option Remaining → Option Remaining → Option State
+with_both s None left = None
+with_both s (Some from) None = None
+with_both s (Some from) (Some left) = Some (with_counts s from left)
+
+abbrev pub running_count : State → Counts → Option Remaining
 running_count s n = count_of (in_delay s.running.phase) n.running
 
-unfoldable pub counted : Bool → State → Counts → CountedState
-counted timed s n =
-    record {
-      fits = both (count_of timed n.suspended).fits (running_count s n).fits;
-      state = with_counts s (count_of timed n.suspended).remaining (running_count s n).remaining;
-    }
+unfoldable pub counted : Bool → State → Counts → Option State
+counted timed s n = with_both s (count_of timed n.suspended) (running_count s n)

@@ -19,7 +19,6 @@ use Rattle.raw.specs.declared.names.Field.TheVariants.{Address, Current, Resolut
 use Rattle.raw.specs.declared.names.Field.TheVariants.{CamSet, CamPosition, FaultCode, FaultCell}
 use Rattle.raw.specs.declared.names.Field.TheVariants.{SuspendedCell, SuspendedRemaining, SuspendedLoops}
 use Rattle.raw.specs.declared.names.Field.TheVariants.{RunningCell, RunningPhase, RunningRemaining, RunningLoops, AtSpeed}
-use Rattle.raw.specs.declared.states.Kept.{Kept}
 use Rattle.raw.specs.declared.remaining.Counts.{Counts}
 
 -- docs/SCRIPTS.md: "`ad in rs es cm pos inp camset campos errcode errcell reccell recrest recloop cell phase rest loop mark`"
@@ -68,19 +67,6 @@ phase_at k =
     (choose (eqb k 4) Slowing
     (choose (eqb k 5) EmergencySlowing BackOff)))))
 
--- an integer as fields of each kind keep it; docs/SCRIPTS.md: "rs: the place in D0 to D3, B0 to B3"
-unfoldable pub kept_of : ℕ → Kept
-kept_of v =
-    record {
-      byte = byte_of v;
-      word = word_of v;
-      bits = long_of v;
-      on = is_one v;
-      resolution = resolution_at v;
-      phase = phase_at v;
-      inputs = inputs_of (word_of v);
-    }
-
 -- one part of the interrupted record or of the program under way replaced
 abbrev pub suspended_at : Suspended → ℕ → Suspended
 suspended_at r y = record { cell = record { 0 = y }; remaining = r.remaining; loops = r.loops }
@@ -98,27 +84,27 @@ running_in r y = record { cell = r.cell; phase = y; remaining = r.remaining; loo
 abbrev pub running_marked : Running → Bool → Running
 running_marked r y = record { cell = r.cell; phase = r.phase; remaining = r.remaining; loops = r.loops; at_speed = y }
 
--- the state with a field set; both remaining counts stay
-unfoldable pub with_field : State → Field → Kept → State
-with_field s Address k = with_presets s (with_address s.presets (record { 0 = k.byte }))
-with_field s Current k = with_presets s (with_current s.presets k.byte)
-with_field s Resolution k = with_presets s (with_resolution s.presets k.resolution)
-with_field s Interlock k = with_presets s (with_interlock s.presets k.on)
-with_field s Absolute k = with_presets s (with_absolute s.presets k.on)
-with_field s MotorPosition k = with_position s (record { 0 = k.bits })
-with_field s Inputs k = with_inputs s k.inputs
-with_field s CamSet k = with_cam s (record { set = k.on; position = s.cam.position })
-with_field s CamPosition k = with_cam s (record { set = s.cam.set; position = record { 0 = k.bits } })
-with_field s FaultCode k = with_fault s (record { code = k.byte; cell = s.fault.cell })
-with_field s FaultCell k = with_fault s (record { code = s.fault.code; cell = record { 0 = k.byte } })
-with_field s SuspendedCell k = with_suspended s (suspended_at s.suspended k.byte)
-with_field s SuspendedRemaining k = s
-with_field s SuspendedLoops k = with_suspended s (suspended_looped s.suspended k.word)
-with_field s RunningCell k = with_running s (running_at s.running k.byte)
-with_field s RunningPhase k = with_running s (running_in s.running k.phase)
-with_field s RunningRemaining k = s
-with_field s RunningLoops k = with_running s (with_loop_count s.running k.word)
-with_field s AtSpeed k = with_running s (running_marked s.running k.on)
+-- the state with a field set, as the field keeps an integer; both remaining counts stay. docs/SCRIPTS.md: "rs: the place in D0 to D3, B0 to B3"
+unfoldable pub with_field : State → Field → ℕ → State
+with_field s Address v = with_presets s (with_address s.presets (record { 0 = byte_of v }))
+with_field s Current v = with_presets s (with_current s.presets (byte_of v))
+with_field s Resolution v = with_presets s (with_resolution s.presets (resolution_at v))
+with_field s Interlock v = with_presets s (with_interlock s.presets (is_one v))
+with_field s Absolute v = with_presets s (with_absolute s.presets (is_one v))
+with_field s MotorPosition v = with_position s (record { 0 = long_of v })
+with_field s Inputs v = with_inputs s (inputs_of (word_of v))
+with_field s CamSet v = with_cam s (record { set = is_one v; position = s.cam.position })
+with_field s CamPosition v = with_cam s (record { set = s.cam.set; position = record { 0 = long_of v } })
+with_field s FaultCode v = with_fault s (record { code = byte_of v; cell = s.fault.cell })
+with_field s FaultCell v = with_fault s (record { code = s.fault.code; cell = record { 0 = byte_of v } })
+with_field s SuspendedCell v = with_suspended s (suspended_at s.suspended (byte_of v))
+with_field s SuspendedRemaining v = s
+with_field s SuspendedLoops v = with_suspended s (suspended_looped s.suspended (word_of v))
+with_field s RunningCell v = with_running s (running_at s.running (byte_of v))
+with_field s RunningPhase v = with_running s (running_in s.running (phase_at v))
+with_field s RunningRemaining v = s
+with_field s RunningLoops v = with_running s (with_loop_count s.running (word_of v))
+with_field s AtSpeed v = with_running s (running_marked s.running (is_one v))
 
 -- both remaining counts with a field set; every other field leaves them
 unfoldable pub counts_with : Counts → Field → ℕ → Counts

@@ -1,21 +1,13 @@
 // A cell put together from integers: a code, its parameters in the order of QM, and the next cell.
 ghost use Rattle.std.specs.Prelude.{◌≡◌};
 ghost use Rattle.raw.specs.Cells.{fits_hertz, fits_fixed, fits_count, fits_kind};
-ghost use Rattle.raw.specs.Cells.{second_of, number_as};
+ghost use Rattle.raw.specs.Cells.{second_of, number_as, kind_at};
 ghost use Rattle.raw.specs.Cells.{cell_holding, fits_row, numbers_in, made_of};
 
 use crate::integers;
 use fields::kinds::Kind;
-use fields::rows::Row;
 use instruction::{Cell, Instruction, numbers};
 use units::{CellAddress, Position};
-
-// A cell, and whether the record can hold it.
-#[derive(Clone, Copy)]
-pub struct Made {
-    pub held: bool,
-    pub cell: Cell,
-}
 
 // A frequency of 21 or 22 is held as its place in the table, so one that is not there cannot be.
 #[tactic(auto, unfolding(crate::specs::Cells::fits_hertz))]
@@ -61,13 +53,11 @@ fn fits(code: u64, kind: Kind, v: u64) -> bool
 {
     match kind {
         Kind::Fixed(width, _, _) => is_fixed(width, v),
-        Kind::Next => v < 256,
+        Kind::Next | Kind::Name(_) => v < 256,
         Kind::Count(_, _) => is_count(code, v),
-        Kind::Signed(_, _) => integers::is_signed(v),
-        Kind::Optional(_, _) => integers::is_signed(v),
+        Kind::Signed(_, _) | Kind::Optional(_, _) => integers::is_signed(v),
         Kind::Sign => (v == 1) | (v == 0xffff_ffff_ffff_ffff),
         Kind::Multiplier => (v == 1) | (v == 4),
-        Kind::Name(_) => v < 256,
     }
 }
 
@@ -88,55 +78,47 @@ fn number(kind: Kind, v: u64) -> u32
     ensures { result ≡ number_as kind v }
 {
     match kind {
-        Kind::Fixed(_, _, _) => integers::low(v),
-        Kind::Next => integers::low(v),
-        Kind::Count(_, _) => integers::low(v),
-        Kind::Signed(_, _) => integers::low(v),
-        Kind::Optional(_, _) => integers::low(v),
-        Kind::Sign => second(v),
-        Kind::Multiplier => second(v),
-        Kind::Name(_) => integers::low(v),
+        Kind::Sign | Kind::Multiplier => second(v),
+        _ => integers::low(v),
+    }
+}
+
+// The kind at a place of a row. Behind the code's own fields it is Next, and the numbers there are
+// 0; of a 69 the first of them is read as its next.
+#[tactic(auto, unfolding(crate::specs::Cells::kind_at))]
+fn kind_at(kinds: &[Kind], i: usize) -> Kind
+    ensures { result ≡ kind_at kinds.now i }
+{
+    match kinds.get(i) {
+        Some(kind) => *kind,
+        None => Kind::Next,
     }
 }
 
 #[tactic(auto, unfolding(crate::specs::Cells::fits_row, laws::specs::Tests::both))]
-fn all_fit(row: Row, n: [u64; 7]) -> bool
-    ensures { result ≡ fits_row row n }
+fn all_fit(kinds: &[Kind], n: [u64; 7]) -> bool
+    ensures { result ≡ fits_row kinds.now n }
 {
     let code = n[0];
-    let k0 = row.k0;
-    let k1 = row.k1;
-    let k2 = row.k2;
-    let k3 = row.k3;
-    let k4 = row.k4;
-    let k5 = row.k5;
-    fits(code, k0, n[1])
-        & fits(code, k1, n[2])
-        & fits(code, k2, n[3])
-        & fits(code, k3, n[4])
-        & fits(code, k4, n[5])
-        & fits(code, k5, n[6])
+    fits(code, kind_at(kinds, 0), n[1])
+        & fits(code, kind_at(kinds, 1), n[2])
+        & fits(code, kind_at(kinds, 2), n[3])
+        & fits(code, kind_at(kinds, 3), n[4])
+        & fits(code, kind_at(kinds, 4), n[5])
+        & fits(code, kind_at(kinds, 5), n[6])
 }
 
-// The format's row has the kind Next behind the code's own fields, and the numbers there are 0; of
-// a 69 the first of them is read as its next.
 #[tactic(auto, unfolding(crate::specs::Cells::numbers_in))]
-fn numbers_in(row: Row, n: [u64; 7]) -> [u32; 6]
-    ensures { result ≡ numbers_in row n }
+fn numbers_in(kinds: &[Kind], n: [u64; 7]) -> [u32; 6]
+    ensures { result ≡ numbers_in kinds.now n }
 {
-    let k0 = row.k0;
-    let k1 = row.k1;
-    let k2 = row.k2;
-    let k3 = row.k3;
-    let k4 = row.k4;
-    let k5 = row.k5;
     [
-        number(k0, n[1]),
-        number(k1, n[2]),
-        number(k2, n[3]),
-        number(k3, n[4]),
-        number(k4, n[5]),
-        number(k5, n[6]),
+        number(kind_at(kinds, 0), n[1]),
+        number(kind_at(kinds, 1), n[2]),
+        number(kind_at(kinds, 2), n[3]),
+        number(kind_at(kinds, 3), n[4]),
+        number(kind_at(kinds, 4), n[5]),
+        number(kind_at(kinds, 5), n[6]),
     ]
 }
 
@@ -164,15 +146,15 @@ fn holding(code: u64, v: [u32; 6]) -> Cell
     numbers::cell_of(integers::low(code), &v)
 }
 
-#[tactic(auto, unfolding(crate::specs::Cells::made_of, laws::specs::Tests::both))]
-pub fn cell(n: [u64; 7]) -> Made
+// The cell of a code, its parameters and its next, where the record can hold it.
+#[tactic(auto, unfolding(crate::specs::Cells::made_of, laws::specs::Tests::choose, laws::specs::Tests::both))]
+pub fn cell(n: [u64; 7]) -> Option<Cell>
     ensures { result ≡ made_of n }
 {
     let code = n[0];
-    let format = format::format_of(integers::low(code));
-    let known = (code < 256) & format.known;
-    Made {
-        held: known & all_fit(format.row, n),
-        cell: holding(code, numbers_in(format.row, n)),
+    let kinds = format::format_of(integers::low(code))?;
+    if code < 256 && all_fit(kinds, n) {
+        return Some(holding(code, numbers_in(kinds, n)));
     }
+    None
 }

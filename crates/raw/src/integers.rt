@@ -1,6 +1,21 @@
 // Integers as 64 bits in two's complement, and whether narrower types hold them.
 ghost use Rattle.std.specs.Prelude.{◌≡◌};
+ghost use Rattle.instruction.specs.Numbers.{byte_of, word_of};
 ghost use Rattle.raw.specs.Integers.{fits_signed, long_of, extended as extended_of};
+
+// The low 8 bits.
+pub fn byte(v: u64) -> u8
+    ensures { result ≡ byte_of v }
+{
+    (v % 256) as u8
+}
+
+// The low 16 bits.
+pub fn word(v: u64) -> u16
+    ensures { result ≡ word_of v }
+{
+    (v % 65536) as u16
+}
 
 // The low 32 bits.
 pub fn low(v: u64) -> u32

@@ -12,7 +12,7 @@ use lib.ListN.{length, get_or, set, take, replicate, length-set}
 use lib.Seq.{get_or-set_same, get_or-set_other}
 use borrow.Author.Tests.{lt-ltb, le-ltb}
 use Rattle.laws.specs.Tests.{choose}
-use Rattle.laws.proofs.Tests.{either-true-left, either-true-right, lt-or-le}
+use Rattle.laws.proofs.Tests.{choose-true, either-true-left, either-true-right, lt-or-le}
 use Rattle.cellmap.specs.Marks.{no_marks, is_marked, marked, unmarked}
 use Rattle.cellmap.proofs.Counting.{unmarked-less}
 use Rattle.instruction.specs.Adding.{is_one_of}
@@ -20,9 +20,9 @@ use Rattle.instruction.specs.declared.Cell.{Cell}
 use Rattle.machine.proofs.Tests.{clash}
 use Rattle.reachability.specs.Graph.{Reached, Counted, is_root}
 use Rattle.reachability.specs.Graph.Reached.{from, along}
-use Rattle.reachability.specs.Search.{Spread, open_by, Searched, Waiting}
+use Rattle.reachability.specs.Search.{Spread, open_by, Searched, Waiting, marks_with, order_with, count_with}
 use Rattle.reachability.specs.Search.Spread.{old, onward}
-use Rattle.reachability.proofs.Searching.{marked-here, one-of-take}
+use Rattle.reachability.proofs.Searching.{marked-here, new-here, one-of-take}
 
 -- the first n places are marked and stand in the order, and nothing else is
 pub record Rooted (used : List Bool) (order : List ℕ) (n : ℕ) : Type 0 where
@@ -48,8 +48,8 @@ rooted_none =
       places = λ k h. absurd (omega (arith, h));
     }
 
-pub rooted_more : {used : List Bool} {order : List ℕ} {n : ℕ} → Rooted used order n → n < 131 → Rooted (marked used n) (set order n n) (n + 1)
-rooted_more {used} {order} {n} r h =
+rooted_next : {used : List Bool} {order : List ℕ} {n : ℕ} → Rooted used order n → n < 131 → Rooted (marked used n) (set order n n) (n + 1)
+rooted_next {used} {order} {n} r h =
     let less : unmarked used ≡ suc (unmarked (marked used n)) = unmarked-less used n (omega (arith, h, r.size)) (r.marks n ∙ le-ltb n n (omega arith)) in
     record {
       size = length-set used n true ∙ r.size;
@@ -74,13 +74,25 @@ rooted_more {used} {order} {n} r h =
         subst (λ (j : ℕ). get_or (set order n n) j 0 ≡ j) (sym e) (get_or-set_same order n n 0 (omega (arith, h, r.long)))
     place k b (no m) = get_or-set_other order n k n 0 m ∙ r.places k (omega (arith, b, m))
 
-pub rooted-waiting : {used : List Bool} {order : List ℕ} {n : ℕ} → Rooted used order n → Waiting used order n
-rooted-waiting {used} {order} {n} r =
+pub room-first : 0 + unmarked no_marks ≤ 131
+room-first = omega (arith, rooted_none.count)
+
+-- the place n, which has no mark yet, is found next
+pub rooted_more :
+    {used used' : List Bool} {order order' : List ℕ} {n c c' : ℕ} → Rooted used order n × (c ≡ n) → n < 131 → c' ≡ count_with used c n →
+    used' ≡ marks_with used n → order' ≡ order_with used order c n → Rooted used' order' (n + 1) × (c' ≡ n + 1)
+rooted_more {used} {n = n} i h e m o =
+    let t = new-here used n h (i.0.marks n ∙ le-ltb n n (omega arith)) in
+    rw (m, o, e, i.1, choose-true _ _ _ t, choose-true _ _ _ t, choose-true _ _ _ t) (rooted_next i.0 h, refl)
+
+pub rooted-waiting : {used : List Bool} {order : List ℕ} {n c : ℕ} → Rooted used order n × (c ≡ n) → Waiting used order c
+rooted-waiting {used} {order} {n} i =
+    let r = i.0 in
     record {
       size = r.size;
       long = r.long;
-      room = omega (arith, r.count);
-      on_map = λ t h. ap (is_marked used) (r.places t h) ∙ r.marks t ∙ lt-ltb t n h;
+      room = omega (arith, r.count, i.1);
+      on_map = λ t h. ap (is_marked used) (r.places t (omega (arith, h, i.1))) ∙ r.marks t ∙ lt-ltb t n (omega (arith, h, i.1));
     }
 
 -- every cell is open: a root, or one without a mark
@@ -106,14 +118,20 @@ unfolding is_root
 reached-spread cells {k = k} r (from h t) = old h (r.marks k ∙ t)
 reached-spread cells r (along {j} h s x) = onward h (opens r j) (reached-spread cells r s) x
 
-pub rooted-counted :
+rooted-all :
     (cells : List Cell) {used : List Bool} {order : List ℕ} {map : List Bool} → Rooted used order 16 → Searched cells (take 16 order) used map →
     Counted cells is_root map
-rooted-counted cells r s =
+rooted-all cells r s =
     record {
       size = s.size;
       exactly = λ k h. (λ t. spread-reached cells r ((s.exactly k h).0 t), λ x. (s.exactly k h).1 (reached-spread cells r x));
     }
+
+pub rooted-counted :
+    (cells : List Cell) {used : List Bool} {order : List ℕ} {map : List Bool} {n c : ℕ} → Rooted used order n × (c ≡ n) → n ≡ 16 →
+    Searched cells (take c order) used map → Counted cells is_root map
+rooted-counted cells {used} {order} {map} i e s =
+    rooted-all cells (subst (Rooted used order) e i.0) (subst (λ (n : ℕ). Searched cells (take n order) used map) (i.1 ∙ e) s)
 
 -- ---- one cell to follow
 
@@ -130,11 +148,14 @@ some-marked (false ∷ used) zero t = clash t
 some-marked (true ∷ used) (suc k) t = let h = some-marked used k t in omega (arith, h)
 some-marked (false ∷ used) (suc k) t = let h = some-marked used k t in omega (arith, h)
 
+pub one-room : (used : List Bool) (k : ℕ) → length used ≡ 131 → is_marked used k ≡ true → 1 + unmarked used ≤ 131
+one-room used k l t = omega (arith, some-marked used k t, l)
+
 pub one-waiting : {used : List Bool} {order : List ℕ} {k : ℕ} → length used ≡ 131 → length order ≡ 131 → is_marked used k ≡ true → get_or order 0 0 ≡ k → Waiting used order 1
 one-waiting {used} {order} {k} l m t e =
     record {
       size = l;
       long = m;
-      room = omega (arith, some-marked used k t, l);
+      room = one-room used k l t;
       on_map = λ i h. let z : i ≡ 0 = omega (arith, h) in ap (λ (j : ℕ). is_marked used (get_or order j 0)) z ∙ ap (is_marked used) e ∙ t;
     }

@@ -4,7 +4,7 @@ ghost use Rattle.cellmap.specs.Marks.{is_marked};
 ghost use Rattle.reachability.specs.Graph.{Counted, is_root};
 ghost use Rattle.reachability.specs.Search.{Grown};
 
-use crate::search::search;
+use crate::search::Search;
 use cellmap::CellMap;
 use instruction::Cell;
 
@@ -12,30 +12,32 @@ use instruction::Cell;
 const ROOTS: usize = 16;
 
 // The map of the cells that can be reached from cells 100 to 115, these included.
-pub fn count(cells: [Cell; 131]) -> CellMap
-    ensures { Counted cells is_root result }
+pub fn count(cells: &[Cell; 131]) -> CellMap
+    ensures { Counted cells.now is_root result }
 {
-    let mut used = [false; 131];
-    let mut order = [0u8; 131];
-    let mut k: usize = 0;
-    while k < ROOTS {
-        used[k] = true;
-        order[k] = k as u8;
-        k += 1;
+    let mut search = Search {
+        used: [false; 131],
+        order: [0u8; 131],
+        count: 0,
+    };
+    for k in 0..ROOTS {
+        search.find(k);
     }
-    search(cells, &mut used, &mut order, ROOTS);
-    used
+    search.follow(cells)
 }
 
 // A map with what a cell in it leads to.
-pub fn grow(cells: [Cell; 131], used: CellMap, at: usize) -> CellMap
+pub fn grow(cells: &[Cell; 131], used: CellMap, at: usize) -> CellMap
     requires at_bound { at < 131 }
     requires at_value { is_marked used at ≡ true }
-    ensures { Grown cells at used result }
+    ensures { Grown cells.now at used result }
 {
-    let mut map = used;
     let mut order = [0u8; 131];
     order[0] = at as u8;
-    search(cells, &mut map, &mut order, 1);
-    map
+    let search = Search {
+        used,
+        order,
+        count: 1,
+    };
+    search.follow(cells)
 }

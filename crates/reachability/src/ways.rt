@@ -5,7 +5,8 @@ ghost use Rattle.reachability.specs.Graph.{place_of, next_place, jump_place};
 use instruction::Cell;
 use units::CellAddress;
 
-// How many places there are, and so the first that is no cell's.
+// How many places there are, and so the first that is no cell's. What leads to no cell has a place
+// past the others and no Option: the definitions, and with them the theorem used_cells, number it so.
 pub const PLACES: usize = 131;
 
 // The place of a cell; of 000, which is no cell, 131.
@@ -13,11 +14,11 @@ pub const PLACES: usize = 131;
 pub fn place_of(address: CellAddress) -> usize
     ensures { result ≡ place_of address }
 {
-    let n = address.0 as usize;
-    if n < 100 {
-        return PLACES;
+    if address.0 < CellAddress::FIRST {
+        PLACES
+    } else {
+        address.place()
     }
-    n - 100
 }
 
 // Where its next leads.
@@ -33,6 +34,5 @@ pub fn next_place(cell: Cell) -> usize
 pub fn jump_place(cell: Cell) -> usize
     ensures { result ≡ jump_place cell }
 {
-    let instruction = cell.instruction;
-    place_of(instruction.jump(cell.next))
+    place_of(cell.instruction.jump(cell.next))
 }

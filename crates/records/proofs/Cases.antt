@@ -4,6 +4,7 @@ use Prim.Native.Nat.{ℕ, suc, ◌-◌}
 use Prim.Native.String.{String}
 use mathlib.Core.Path.{◌≡◌, refl}
 use mathlib.Core.List.{List, [], ◌∷◌, ◌++◌, map}
+use Rattle.std.specs.Prelude.{Option, Some, None}
 use Rattle.laws.specs.Tests.{choose, both, either}
 use Rattle.laws.specs.Text.{bytes}
 use Rattle.decimal.specs.Printing.{digits, width_from, width, decimal, signed}
@@ -27,8 +28,8 @@ use Rattle.records.specs.Records.{record_text}
 -- what a raw write and the text of a record unfold
 computing : Unit {0}
 unfolding choose both either bytes digits width_from width decimal signed code_of fresh cell_at is_cell is_delay resolution_at bits_from inputs_of
-    preset_value bit_text integers.fits_signed integers.extended counts.integer_of counts.counts_of counts.holds_delay counts.count_of counts.counted
-    fields.fields fields.field_in fields.field_at fields.fits_field fields.phase_at fields.kept_of fields.with_field fields.counts_with
+    preset_value bit_text integers.fits_signed integers.extended counts.integer_of counts.counts_of counts.holds_delay counts.count_of counts.with_both counts.counted
+    fields.fields fields.field_in fields.field_at fields.fits_field fields.phase_at fields.with_field fields.counts_with
     writes.written_with writes.put_together writes.field_written field_text records.signed_field records.remaining_text records.remaining_field
     records.presets_text records.inputs_word records.cam_text records.fault_text records.suspended_text records.running_text records.record_text
 computing = tt
@@ -37,10 +38,15 @@ computing = tt
 minus : ℕ → ℕ
 minus n = 18446744073709551616 - n
 
+-- the record after a write that it can hold, else the one before
+after : Machine → Option Machine → Machine
+after m None = m
+after m (Some n) = n
+
 -- the fields from a place on written, each with its integer, to a drive
 written : ℕ → List ℕ → Machine → Machine
 written k [] m = m
-written k (v ∷ vs) m = written (suc k) vs (field_written m k v).machine
+written k (v ∷ vs) m = written (suc k) vs (after m (field_written m k v))
 
 shown_from : ℕ → List ℕ → List ℕ
 shown_from k vs = record_text (written k vs (fresh (record { 0 = 0 }))).state
@@ -58,7 +64,7 @@ written-as-shown :
     ≡ map bytes
     ("7,3,5,1,0,-9,1025,1,+12,50,101,102,-13,14,103,2,-15,16,1" ∷
     "255,254,7,0,1,+2147483647,2047,0,-2147483648,253,252,251,+2147483647,65535,250,1,+4294967295,65534,0" ∷ [])
-unfolding computing minus written shown_from
+unfolding computing minus after written shown_from
 written-as-shown = refl
 
 -- every resolution, every phase, and the word of each input, on a fresh drive
@@ -68,17 +74,17 @@ within before behind v = bytes before ++ (decimal v ++ bytes behind)
 resolutions-shown :
     let places : List ℕ = 0 ∷ 1 ∷ 2 ∷ 3 ∷ 4 ∷ 5 ∷ 6 ∷ 7 ∷ [] in
     map (λ (v : ℕ). shown_from 2 (v ∷ [])) places ≡ map (within "0,1," ",0,0,+0,0,0,+0,0,0,0,+0,0,0,0,+0,0,0") places
-unfolding computing written shown_from
+unfolding computing after written shown_from
 resolutions-shown = refl
 
 phases-shown :
     let places : List ℕ = 0 ∷ 1 ∷ 2 ∷ 3 ∷ 4 ∷ 5 ∷ 6 ∷ [] in
     map (λ (v : ℕ). shown_from 15 (v ∷ [])) places ≡ map (within "0,1,2,0,0,+0,0,0,+0,0,0,0,+0,0,0," ",+0,0,0") places
-unfolding computing written shown_from
+unfolding computing after written shown_from
 phases-shown = refl
 
 inputs-shown :
     let words : List ℕ = 1 ∷ 2 ∷ 4 ∷ 8 ∷ 16 ∷ 32 ∷ 64 ∷ 128 ∷ 256 ∷ 512 ∷ 1024 ∷ 2047 ∷ [] in
     map (λ (v : ℕ). shown_from 6 (v ∷ [])) words ≡ map (within "0,1,2,0,0,+0," ",0,+0,0,0,0,+0,0,0,0,+0,0,0") words
-unfolding computing written shown_from
+unfolding computing after written shown_from
 inputs-shown = refl

@@ -60,11 +60,9 @@ fn gather_presets(line: &mut [u8], n: usize, presets: Presets) -> usize
 fn word_of(inputs: [bool; 11]) -> u32
     ensures { result ≡ inputs_word inputs }
 {
-    let mut word: u32 = 0;
-    let mut i: usize = 11;
-    while 0 < i {
-        i -= 1;
-        word = 2 * word + bit(inputs[i]);
+    let mut word = 0;
+    for (i, on) in inputs.iter().enumerate() {
+        word += bit(*on) << i;
     }
     word
 }
@@ -87,13 +85,12 @@ fn gather_suspended(line: &mut [u8], n: usize, suspended: Suspended) -> usize
     ensures { Gathered
         line.old n (suspended_text suspended) line.new result }
 {
-    let remaining = suspended.remaining;
     let a = gather_field(line, n, suspended.cell.0 as u32);
-    let b = gather_remaining_field(line, a, remaining);
+    let b = gather_remaining_field(line, a, suspended.remaining);
     gather_field(line, b, suspended.loops as u32)
 }
 
-// The place of a phase among those of raw writes.
+// The place of a phase among those of raw writes. The form numbers them, and not the declaration.
 fn phase_place(phase: Phase) -> u32
     ensures { result ≡ phase_place phase }
 {
@@ -111,11 +108,9 @@ fn phase_place(phase: Phase) -> u32
 fn gather_running(line: &mut [u8], n: usize, running: Running) -> usize
     ensures { Gathered line.old n (running_text running) line.new result }
 {
-    let phase = running.phase;
-    let remaining = running.remaining;
     let a = gather_field(line, n, running.cell.0 as u32);
-    let b = gather_field(line, a, phase_place(phase));
-    let c = gather_remaining_field(line, b, remaining);
+    let b = gather_field(line, a, phase_place(running.phase));
+    let c = gather_remaining_field(line, b, running.remaining);
     let d = gather_field(line, c, running.loops as u32);
     gather_bit(line, d, running.at_speed)
 }
@@ -123,10 +118,9 @@ fn gather_running(line: &mut [u8], n: usize, running: Running) -> usize
 pub fn gather_record(line: &mut [u8], n: usize, state: State) -> usize
     ensures { Gathered line.old n (record_text state) line.new result }
 {
-    let inputs = state.inputs;
     let a = gather_presets(line, n, state.presets);
     let b = gather_signed_field(line, a, state.position.0);
-    let c = gather_field(line, b, word_of(inputs));
+    let c = gather_field(line, b, word_of(state.inputs));
     let d = gather_cam(line, c, state.cam);
     let e = gather_fault(line, d, state.fault);
     let f = gather_suspended(line, e, state.suspended);

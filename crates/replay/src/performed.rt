@@ -1,219 +1,177 @@
 // The calls, each with the first five words of what is seen of it: refusal, answer, buffer, end and
-// count. A call hands back the next drive alone and moves the place after what was seen, and an arm
-// returns what it makes: the check of a function takes longer with each value that holds a drive.
-// The map of used cells goes with the drive: it is counted where another drive comes into use, and
-// a string brings it up to date.
+// count.
+use crate::refused::Number;
 use crate::seen::Out;
-use crate::{reading, seen, used};
+use crate::{reading, used};
 use cellmap::CellMap;
 use drive::Drive;
-use drive::results::{Done, Told, Waited};
+use drive::results::{Refusal, Refused};
 use lines::gathering::front;
-use machine::Machine;
-use raw::Written;
 use script::call::{Call, Event, Look, Write};
 use units::{CellAddress, DriveAddress, Milliseconds};
 
-// An address above 255 is refused as 255 is.
-fn address(number: u32) -> DriveAddress {
-    if 255 < number {
-        return DriveAddress(255);
-    }
-    DriveAddress(number as u8)
+// The first bytes of a buffer, all of it where it has no more.
+fn lent(space: &mut [u8], n: usize) -> &mut [u8] {
+    let most = n.min(space.len());
+    &mut space[..most]
 }
 
-// A cell above 255 is refused as 255 is.
-fn cell(number: u32) -> CellAddress {
-    if 255 < number {
-        return CellAddress(255);
-    }
-    CellAddress(number as u8)
+// An address above 255 is refused as 255 is.
+pub fn fresh(number: u32) -> Result<Drive, Refused> {
+    Drive::fresh(DriveAddress(number.min(255) as u8))
 }
 
 // A word above 65535 is refused as 65535 is.
-fn word(number: u32) -> u16 {
-    if 65535 < number {
-        return 65535;
-    }
-    number as u16
-}
-
-fn put_done(done: Done, out: &mut Out, at: &mut usize) {
-    let refusal = done.refusal;
-    *at = seen::put_plain(out, *at, refusal.number());
-}
-
-// A refused address leaves the drive before in use.
-fn make(mut drive: Drive, number: u32, used: &mut CellMap, out: &mut Out, at: &mut usize) -> Drive {
-    let made = Drive::fresh(address(number));
-    put_done(made, out, at);
-    let refusal = made.refusal;
-    if refusal.number() == 0 {
-        drive = made.drive;
-        usage::count(drive, used);
-    }
-    drive
-}
-
-fn event(drive: Drive, event: Event) -> Done {
+fn happens(drive: Drive, event: Event) -> Result<Drive, Refused> {
     match event {
-        Event::Inputs(number) => return drive.inputs(word(number)),
-        Event::Millisecond => return drive.millisecond(),
-        Event::Step => return drive.step(),
-        Event::AtSpeed => return drive.at_speed(),
-        Event::Halted => return drive.halted(),
+        Event::Inputs(number) => drive.inputs(number.min(65535) as u16),
+        Event::Millisecond => drive.millisecond(),
+        Event::Step => drive.step(),
+        Event::AtSpeed => drive.at_speed(),
+        Event::Halted => drive.halted(),
     }
 }
 
-fn happen(drive: Drive, e: Event, out: &mut Out, at: &mut usize) -> Drive {
-    let done = event(drive, e);
-    put_done(done, out, at);
-    done.drive
-}
-
-// The first bytes of a buffer, all of it where it has no more.
-fn lent(space: &mut [u8], n: usize) -> &mut [u8] {
-    if space.len() < n {
-        return space;
-    }
-    &mut space[0..n]
-}
-
-fn put_told(told: Told, buffer: &[u8], out: &mut Out, at: &mut usize) {
-    let refusal = told.refusal;
-    *at = seen::put_told(out, *at, refusal.number(), told.length, buffer);
-}
-
-// A string, with a buffer of some size, each byte of one value.
-fn tell(
+// A drive, and the map of its used cells.
+#[derive(Drop)]
+pub struct Player {
     drive: Drive,
-    string: &[u8],
-    size: usize,
-    fill: u8,
-    used: &mut CellMap,
-    out: &mut Out,
-    at: &mut usize,
-) -> Drive {
-    let mut space = [fill; 256];
-    let buffer = lent(&mut space, size);
-    let told = usage::string(drive, used, string, buffer);
-    put_told(told, buffer, out, at);
-    told.drive
+    used: CellMap,
 }
 
-fn put_waited(waited: Waited, out: &mut Out, at: &mut usize) {
-    let refusal = waited.refusal;
-    let ending = waited.ending;
-    *at = seen::put_waited(out, *at, refusal.number(), ending);
-}
-
-fn wait(drive: Drive, budget: u32, out: &mut Out, at: &mut usize) -> Drive {
-    let waited = drive.wait(Milliseconds(budget));
-    put_waited(waited, out, at);
-    waited.drive
-}
-
-// The image of the drive, in a buffer that is longer than any.
-fn put_image(drive: Drive, out: &mut Out, at: usize) -> usize {
-    let mut buffer = [0u8; 2048];
-    let written = image::writing::write(drive, &mut buffer);
-    seen::put_bytes(out, at, written, &buffer)
-}
-
-// What leaves the drive as it is.
-fn put_look(drive: Drive, look: Look, used: &CellMap, out: &mut Out, at: usize) -> usize {
-    match look {
-        Look::Order => seen::put_order(out, at, drive.order()),
-        Look::Rounding(number) => seen::put_rounded(out, at, frequency::round(number)),
-        Look::Reading => reading::put_reading(drive, out, at),
-        Look::Totals(number) => seen::put_totals(out, at, totals::along(drive, cell(number))),
-        Look::Used => used::put_used(drive.machine, used, out, at),
-        Look::Record => seen::put_record(out, at, drive.machine.state),
-        Look::Image => put_image(drive, out, at),
+impl Player {
+    pub fn new(drive: Drive) -> Player {
+        let mut used = [false; 131];
+        usage::count(&drive, &mut used);
+        Player { drive, used }
     }
-}
 
-fn written(machine: Machine, write: Write, numbers: [u64; 7]) -> Written {
-    match write {
-        Write::Field { place, value } => return raw::write_field(machine, place, value),
-        Write::Output { place, value } => return raw::write_output(machine, place, value),
-        Write::Cell { place } => return raw::write_cell(machine, place, numbers),
-    }
-}
-
-fn put_written(written: Written, out: &mut Out, at: &mut usize) {
-    let sound = soundness::sound(written.machine);
-    *at = seen::put_verdict(out, *at, written.held, sound);
-}
-
-// A record that cannot hold the value leaves the drive as it was.
-fn write(
-    mut drive: Drive,
-    write: Write,
-    numbers: [u64; 7],
-    used: &mut CellMap,
-    out: &mut Out,
-    at: &mut usize,
-) -> Drive {
-    let written = written(drive.machine, write, numbers);
-    put_written(written, out, at);
-    if written.held {
-        let machine = written.machine;
-        drive = Drive { machine };
-        usage::count(drive, used);
-    }
-    drive
-}
-
-// The image of the drive, into a buffer of some size, each byte of one value.
-fn save(drive: Drive, size: usize, fill: u8, out: &mut Out, at: usize) -> usize {
-    let mut space = [fill; 2048];
-    let buffer = lent(&mut space, size);
-    let written = image::writing::write(drive, buffer);
-    seen::put_image(out, at, written, buffer)
-}
-
-// A refused image leaves the drive before in use.
-fn load(
-    mut drive: Drive,
-    bytes: &[u8],
-    used: &mut CellMap,
-    out: &mut Out,
-    at: &mut usize,
-) -> Drive {
-    let loaded = image::reading::read(bytes);
-    let refusal = loaded.refusal;
-    *at = seen::put_plain(out, *at, refusal.number());
-    if refusal.number() == 0 {
-        drive = loaded.drive;
-        usage::count(drive, used);
-    }
-    drive
-}
-
-// Carries out a call. A comment and a malformed line are none.
-pub fn perform(
-    mut drive: Drive,
-    call: Call,
-    text: &[u8; 2048],
-    numbers: [u64; 7],
-    used: &mut CellMap,
-    out: &mut Out,
-    at: &mut usize,
-) -> Drive {
-    match call {
-        Call::Comment => {}
-        Call::Malformed(_) => {}
-        Call::Fresh(number) => drive = make(drive, number, used, out, at),
-        Call::Tell { length, size, fill } => {
-            drive = tell(drive, front(text, length), size, fill, used, out, at)
+    // A string, with a buffer of some size, each byte of one value.
+    fn tell(&mut self, string: &[u8], size: usize, fill: u8, out: &mut Out) {
+        let mut space = [fill; 256];
+        let buffer = lent(&mut space, size);
+        match usage::string(self.drive, &mut self.used, string, buffer) {
+            Ok(told) => {
+                self.drive = told.drive;
+                out.put_answer(front(buffer, told.length));
+            }
+            Err(refused) => out.put_number(refused.refusal.number() as u32, b" -"),
         }
-        Call::Happens(e) => drive = happen(drive, e, out, at),
-        Call::Wait(budget) => drive = wait(drive, budget, out, at),
-        Call::Looks(look) => *at = put_look(drive, look, used, out, *at),
-        Call::Writes(w) => drive = write(drive, w, numbers, used, out, at),
-        Call::Save { size, fill } => *at = save(drive, size, fill, out, *at),
-        Call::Load { length } => drive = load(drive, front(text, length), used, out, at),
+        out.put_buffer(buffer);
     }
-    drive
+
+    // The image of the drive, into a buffer of some size, each byte of one value.
+    fn save(&self, size: usize, fill: u8, out: &mut Out) {
+        let mut space = [fill; 2048];
+        let buffer = lent(&mut space, size);
+        match image::writing::write(self.drive, buffer) {
+            Ok(n) => {
+                out.put(b"- ");
+                out.put_number(u32::try_from(n).unwrap_or(u32::MAX), b"");
+            }
+            Err(refusal) => out.put_number(refusal.number() as u32, b" -"),
+        }
+        out.put_buffer(buffer);
+    }
+
+    fn wait(&mut self, budget: u32, out: &mut Out) -> Result<(), Number> {
+        let waited = self.drive.wait(Milliseconds(budget))?;
+        self.drive = waited.drive;
+        out.put_waited(waited.ending);
+        Ok(())
+    }
+
+    // The map as it is kept beside the drive; of an unsound drive the refusal.
+    fn put_used(&self, out: &mut Out) -> Result<(), Number> {
+        if !soundness::sound(self.drive.machine) {
+            return Err(Refusal::Unsound.into());
+        }
+        used::put_map(out, &self.used);
+        Ok(())
+    }
+
+    // The image, in a buffer that is longer than any.
+    fn put_image(&self, out: &mut Out) -> Result<(), Number> {
+        let mut buffer = [0u8; 2048];
+        let n = image::writing::write(self.drive, &mut buffer)?;
+        out.put_bytes(front(&buffer, n));
+        Ok(())
+    }
+
+    // What leaves the drive as it is. A cell above 255 is refused as 255 is.
+    fn look(&self, look: Look, out: &mut Out) -> Result<(), Number> {
+        match look {
+            Look::Order => {
+                self.drive.order()?;
+                out.put_nothing();
+            }
+            Look::Rounding(number) => out.put_rounded(frequency::round(number)?),
+            Look::Reading => out.put_sum(reading::read_all(self.drive)?),
+            Look::Totals(number) => {
+                let cell = CellAddress(number.min(255) as u8);
+                out.put_totals(totals::along(&self.drive, cell)?);
+            }
+            Look::Used => self.put_used(out)?,
+            Look::Record => out.put_record(self.drive.machine.state),
+            Look::Image => self.put_image(out)?,
+        }
+        Ok(())
+    }
+
+    // A record that cannot hold the value leaves the drive as it was.
+    fn write(&mut self, write: Write, numbers: [u64; 7], out: &mut Out) {
+        let machine = self.drive.machine;
+        let written = match write {
+            Write::Field { place, value } => raw::write_field(machine, place, value),
+            Write::Output { place, value } => raw::write_output(machine, place, value),
+            Write::Cell { place } => raw::write_cell(machine, place, numbers),
+        };
+        let Some(machine) = written else {
+            return out.put(b"- unrepresentable - - -");
+        };
+        *self = Player::new(Drive { machine });
+        if soundness::sound(machine) {
+            return out.put(b"- sound - - -");
+        }
+        out.put(b"- unsound - - -");
+    }
+
+    // A refused fresh drive, or image, leaves the drive before in use.
+    fn act(
+        &mut self,
+        call: Call,
+        text: &[u8; 2048],
+        numbers: [u64; 7],
+        out: &mut Out,
+    ) -> Result<(), Number> {
+        match call {
+            Call::Comment => {}
+            Call::Fresh(number) => {
+                *self = Player::new(fresh(number)?);
+                out.put_nothing();
+            }
+            Call::Tell { length, size, fill } => self.tell(front(text, length), size, fill, out),
+            Call::Happens(event) => {
+                self.drive = happens(self.drive, event)?;
+                out.put_nothing();
+            }
+            Call::Wait(budget) => self.wait(budget, out)?,
+            Call::Looks(look) => self.look(look, out)?,
+            Call::Writes(write) => self.write(write, numbers, out),
+            Call::Save { size, fill } => self.save(size, fill, out),
+            Call::Load { length } => {
+                *self = Player::new(image::reading::read(front(text, length))?);
+                out.put_nothing();
+            }
+        }
+        Ok(())
+    }
+
+    // Carries out a call, and puts the line of what is seen of it.
+    pub fn perform(&mut self, call: Call, text: &[u8; 2048], numbers: [u64; 7], out: &mut Out) {
+        if let Err(Number(number)) = self.act(call, text, numbers, out) {
+            out.put_number(number as u32, b" - - - -");
+        }
+        out.put_drive(self.drive);
+    }
 }

@@ -3,11 +3,9 @@
 use Rattle.std.specs.Prelude.{ℕ, ◌≤◌, ◌≡◌, true, List, [], ◌∷◌, ◌++◌, length}
 use Rattle.decimal.specs.Printing.{digits}
 use Rattle.fields.specs.Kinds.{valid}
-use Rattle.fields.specs.Rows.{kinds, all_good, all_valid, most_all}
+use Rattle.fields.specs.Rows.{all_good, all_valid, most_all}
 use Rattle.fields.specs.declared.kinds.Kind.{Kind}
 use Rattle.fields.specs.declared.kinds.Kind.TheVariants.{Next}
-use Rattle.fields.specs.declared.rows.Row.{Row}
-use Rattle.format.specs.Formats.{six_kinds}
 use Rattle.instruction.specs.Soundness.{cell_sound}
 use Rattle.instruction.specs.declared.Cell.{Cell}
 use Rattle.machine.specs.Soundness.{presets_sound, fault_sound}
@@ -24,22 +22,18 @@ front_of aa a b = digits 2 aa.0 ++ (a ∷ b ∷ [])
 unfoldable pub request_answer : StringAddress → ℕ → List ℕ → List ℕ
 request_answer aa letter fields = digits 2 aa.0 ++ (81 ∷ letter ∷ (fields ++ (13 ∷ [])))
 
--- a row of at most three kinds
-abbrev pub row_of : ℕ → Kind → Kind → Kind → Row
-row_of n a b c = six_kinds n a b c Next Next Next
-
 -- what every answer asks: an address of two digits, and a buffer of 64 bytes
 pub record Ready (aa : StringAddress) (buffer : List ℕ) : Type 0 where
   pub address : aa.0 ≤ 99
   pub room : 64 ≤ length buffer
 
 -- what answering with a row asks besides: at most six kinds, each good, values that they admit, and room beside address, code and byte 13
-pub record ReadyRow (aa : StringAddress) (r : Row) (vs buffer : List ℕ) : Type 0 where
+pub record ReadyRow (aa : StringAddress) (ks : List Kind) (vs buffer : List ℕ) : Type 0 where
   pub ready : Ready aa buffer
-  pub few : r.count ≤ 6
-  pub kinds_good : all_good (kinds r) ≡ true
-  pub values_valid : all_valid (kinds r) vs ≡ true
-  pub short : most_all (kinds r) ≤ 59
+  pub few : length ks ≤ 6
+  pub kinds_good : all_good ks ≡ true
+  pub values_valid : all_valid ks vs ≡ true
+  pub short : most_all ks ≤ 59
 
 -- what answering asks: an address of two digits, a command whose names have a place, the shown parts of a sound drive, and a buffer of 64 bytes
 pub record Answerable (aa : StringAddress) (command : Command) (s : State) (c : Cell) (buffer : List ℕ) : Type 0 where

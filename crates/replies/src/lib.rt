@@ -29,28 +29,22 @@ pub fn put_answer(
     ensures { Put buf.old buf.new (answer_at command aa state cell) 0 result }
 {
     match command {
-        Command::Store { .. } => put_accepted(buf, aa),
-        Command::SetPreset { .. } => put_accepted(buf, aa),
-        Command::Start { .. } => put_accepted(buf, aa),
-        Command::EmergencyStop => put_accepted(buf, aa),
-        Command::FreeRunStop => put_accepted(buf, aa),
-        Command::SetPosition { .. } => put_accepted(buf, aa),
-        Command::SetOutput { .. } => put_accepted(buf, aa),
-        Command::SetCam { .. } => put_accepted(buf, aa),
+        Command::Store { .. }
+        | Command::SetPreset { .. }
+        | Command::Start { .. }
+        | Command::EmergencyStop
+        | Command::FreeRunStop
+        | Command::SetPosition { .. }
+        | Command::SetOutput { .. }
+        | Command::SetCam { .. } => put_accepted(buf, aa),
         Command::AskPosition => put_position(buf, aa, state),
         Command::AskPreset { preset } => put_preset(buf, aa, preset, state),
         Command::AskInput { input } => put_input(buf, aa, input, state),
         Command::AskOutput { output } => put_output(buf, aa, output, state),
         Command::AskCell { at } => put_memory(buf, aa, at, cell),
-        Command::AskCam => {
-            let cam = state.cam;
-            put_cam(buf, aa, cam)
-        }
+        Command::AskCam => put_cam(buf, aa, state.cam),
         Command::AskFault => put_fault(buf, aa, state),
-        Command::AskSuspended => {
-            let suspended = state.suspended;
-            put_suspended(buf, aa, suspended)
-        }
+        Command::AskSuspended => put_suspended(buf, aa, state.suspended),
         Command::Wrong => put_rejected(buf, aa),
     }
 }

@@ -1,39 +1,18 @@
 // What every answer is made of: the address, a code or a verdict, a row of fields, byte 13.
 ghost use Rattle.std.specs.Prelude.{◌≡◌, [], ◌∷◌, ◌+◌, ◌≤◌, length};
 ghost use Rattle.laws.specs.Writing.{Put};
-ghost use Rattle.fields.specs.Rows.{print_row};
+ghost use Rattle.fields.specs.Rows.{print_fields};
 ghost use Rattle.machine.specs.Answers.{accepted, rejected};
-ghost use Rattle.machine.specs.Commands.{any_signed};
-ghost use Rattle.replies.specs.Pieces.{front_of, request_answer, row_of, Ready, ReadyRow};
+ghost use Rattle.replies.specs.Pieces.{front_of, request_answer, Ready, ReadyRow};
 
 use decimal::print;
 use fields::kinds::Kind;
 use fields::rows;
-use fields::rows::Row;
 use machine::codes::CARRIAGE_RETURN;
 use machine::commands::StringAddress;
 
-// A row of at most three kinds.
-pub fn row(count: usize, k0: Kind, k1: Kind, k2: Kind) -> Row
-    ensures { result ≡ row_of count k0 k1 k2 }
-{
-    Row {
-        count,
-        k0,
-        k1,
-        k2,
-        k3: Kind::Next,
-        k4: Kind::Next,
-        k5: Kind::Next,
-    }
-}
-
 // A number of 32 bits with its sign.
-pub fn any_signed() -> Kind
-    ensures { result ≡ any_signed }
-{
-    Kind::Signed(0x8000_0000, 0x7fff_ffff)
-}
+pub const ANY_SIGNED: Kind = Kind::Signed(0x8000_0000, 0x7fff_ffff);
 
 // The address in the string and two bytes.
 pub fn put_front(buf: &mut [u8], aa: StringAddress, a: u8, b: u8) -> usize
@@ -72,11 +51,18 @@ pub fn put_rejected(buf: &mut [u8], aa: StringAddress) -> usize
 }
 
 // The answer to a request whose fields are a row.
-pub fn put_row(buf: &mut [u8], aa: StringAddress, letter: u8, shown: Row, values: [u32; 6]) -> usize
-    requires { ReadyRow aa shown values buf.old }
-    ensures { Put buf.old buf.new (request_answer aa letter (print_row shown values)) 0 result }
+pub fn put_row(
+    buf: &mut [u8],
+    aa: StringAddress,
+    letter: u8,
+    kinds: &[Kind],
+    values: [u32; 6],
+) -> usize
+    requires { ReadyRow aa kinds.now values buf.old }
+    ensures { Put buf.old buf.new
+        (request_answer aa letter (print_fields kinds.now values)) 0 result }
 {
     let at = put_front(buf, aa, b'Q', letter);
-    let end = rows::put_fields(buf, at, shown, values);
+    let end = rows::put_fields(buf, at, kinds, values);
     put_end(buf, end)
 }

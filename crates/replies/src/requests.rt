@@ -9,7 +9,7 @@ ghost use Rattle.machine.specs.Answers.{preset_text, position_text, input_text, 
 ghost use Rattle.machine.specs.Answers.{memory_text, fault_text, suspended_text, answer_of};
 ghost use Rattle.replies.specs.Pieces.{Ready};
 
-use crate::pieces::{any_signed, put_end, put_front, put_row, row};
+use crate::pieces::{ANY_SIGNED, put_end, put_front, put_row};
 use crate::values::{bit, output_value, preset_value, remaining_bits};
 use fields::kinds::Kind;
 use fields::names::Names;
@@ -19,7 +19,11 @@ use machine::commands::{StringAddress, preset_kind};
 use machine::{Cam, State, Suspended};
 use units::{CellAddress, LOOP_LIMIT};
 
-// nnn of an interrupted loop count.
+// BBB, V and S, and nnn of an interrupted loop count.
+const CELL: Kind = Kind::Fixed(3, 100, 230);
+
+const BIT: Kind = Kind::Fixed(1, 0, 1);
+
 const LOOPS: Kind = Kind::Count(0, LOOP_LIMIT as u32);
 
 // QA: the position.
@@ -27,8 +31,13 @@ pub fn put_position(buf: &mut [u8], aa: StringAddress, state: State) -> usize
     requires { Ready aa buf.old }
     ensures { Put buf.old buf.new (answer_of aa "QA" (position_text state)) 0 result }
 {
-    let shown = row(1, any_signed(), Kind::Next, Kind::Next);
-    put_row(buf, aa, b'A', shown, [state.position.0, 0, 0, 0, 0, 0])
+    put_row(
+        buf,
+        aa,
+        b'A',
+        &[ANY_SIGNED],
+        [state.position.0, 0, 0, 0, 0, 0],
+    )
 }
 
 // QS: a preset, by its place in AD, IN, RS, ES, CM.
@@ -37,10 +46,9 @@ pub fn put_preset(buf: &mut [u8], aa: StringAddress, preset: u8, state: State) -
     ensures { Put buf.old buf.new (answer_of aa "QS" (preset_text preset state)) 0 result }
 {
     let kind = preset_kind(preset as u32);
-    let presets = state.presets;
-    let value = preset_value(preset, presets);
-    let shown = row(2, Kind::Name(Names::Presets), kind, Kind::Next);
-    put_row(buf, aa, b'S', shown, [preset as u32, value, 0, 0, 0, 0])
+    let value = preset_value(preset, state.presets);
+    let kinds = [Kind::Name(Names::Presets), kind];
+    put_row(buf, aa, b'S', &kinds, [preset as u32, value, 0, 0, 0, 0])
 }
 
 // QI: an input.
@@ -48,15 +56,9 @@ pub fn put_input(buf: &mut [u8], aa: StringAddress, input: u8, state: State) -> 
     requires { Ready aa buf.old × (input < 11) }
     ensures { Put buf.old buf.new (answer_of aa "QI" (input_text input state)) 0 result }
 {
-    let i = input as usize;
-    let value = bit(state.inputs[i]);
-    let shown = row(
-        2,
-        Kind::Name(Names::Inputs),
-        Kind::Fixed(1, 0, 1),
-        Kind::Next,
-    );
-    put_row(buf, aa, b'I', shown, [input as u32, value, 0, 0, 0, 0])
+    let value = bit(state.inputs[input as usize]);
+    let kinds = [Kind::Name(Names::Inputs), BIT];
+    put_row(buf, aa, b'I', &kinds, [input as u32, value, 0, 0, 0, 0])
 }
 
 // QO: an output, or BS or FA.
@@ -65,13 +67,8 @@ pub fn put_output(buf: &mut [u8], aa: StringAddress, output: u8, state: State) -
     ensures { Put buf.old buf.new (answer_of aa "QO" (output_text output state)) 0 result }
 {
     let value = output_value(output, state);
-    let shown = row(
-        2,
-        Kind::Name(Names::Outputs),
-        Kind::Fixed(1, 0, 1),
-        Kind::Next,
-    );
-    put_row(buf, aa, b'O', shown, [output as u32, value, 0, 0, 0, 0])
+    let kinds = [Kind::Name(Names::Outputs), BIT];
+    put_row(buf, aa, b'O', &kinds, [output as u32, value, 0, 0, 0, 0])
 }
 
 // QM: a cell, as WN stored it.
@@ -80,8 +77,7 @@ pub fn put_memory(buf: &mut [u8], aa: StringAddress, at: CellAddress, cell: Cell
     ensures { Put buf.old buf.new (answer_of aa "QM" (memory_text at cell)) 0 result }
 {
     let place = put_front(buf, aa, b'Q', b'M');
-    let shown = row(1, Kind::Fixed(3, 100, 230), Kind::Next, Kind::Next);
-    let next = rows::put_fields(buf, place, shown, [at.0 as u32, 0, 0, 0, 0, 0]);
+    let next = rows::put_fields(buf, place, &[CELL], [at.0 as u32, 0, 0, 0, 0, 0]);
     let end = text::put_cell(buf, next, cell);
     put_end(buf, end)
 }
@@ -92,11 +88,10 @@ pub fn put_cam(buf: &mut [u8], aa: StringAddress, cam: Cam) -> usize
     ensures { Put buf.old buf.new (answer_of aa "QC" (cam_text cam)) 0 result }
 {
     if cam.set {
-        let shown = row(2, Kind::Fixed(1, 0, 1), any_signed(), Kind::Next);
-        return put_row(buf, aa, b'C', shown, [1, cam.position.0, 0, 0, 0, 0]);
+        let kinds = [BIT, ANY_SIGNED];
+        return put_row(buf, aa, b'C', &kinds, [1, cam.position.0, 0, 0, 0, 0]);
     }
-    let shown = row(1, Kind::Fixed(1, 0, 1), Kind::Next, Kind::Next);
-    put_row(buf, aa, b'C', shown, [0, 0, 0, 0, 0, 0])
+    put_row(buf, aa, b'C', &[BIT], [0, 0, 0, 0, 0, 0])
 }
 
 // QE: the error code and its cell.
@@ -107,8 +102,8 @@ pub fn put_fault(buf: &mut [u8], aa: StringAddress, state: State) -> usize
     let fault = state.fault;
     let code = fault.code as u32;
     let cell = fault.cell.0 as u32;
-    let shown = row(2, Kind::Fixed(2, 0, 99), Kind::Fixed(3, 0, 999), Kind::Next);
-    put_row(buf, aa, b'E', shown, [code, cell, 0, 0, 0, 0])
+    let kinds = [Kind::Fixed(2, 0, 99), Kind::Fixed(3, 0, 999)];
+    put_row(buf, aa, b'E', &kinds, [code, cell, 0, 0, 0, 0])
 }
 
 // QR: the interrupted record; an empty one is 000.
@@ -118,12 +113,10 @@ pub fn put_suspended(buf: &mut [u8], aa: StringAddress, suspended: Suspended) ->
 {
     let cell = suspended.cell.0 as u32;
     if cell == 0 {
-        let shown = row(1, Kind::Fixed(3, 0, 999), Kind::Next, Kind::Next);
-        return put_row(buf, aa, b'R', shown, [0, 0, 0, 0, 0, 0]);
+        return put_row(buf, aa, b'R', &[Kind::Fixed(3, 0, 999)], [0, 0, 0, 0, 0, 0]);
     }
-    let remaining = suspended.remaining;
-    let bits = remaining_bits(remaining);
+    let bits = remaining_bits(suspended.remaining);
     let loops = suspended.loops as u32;
-    let shown = row(3, Kind::Fixed(3, 100, 230), any_signed(), LOOPS);
-    put_row(buf, aa, b'R', shown, [cell, bits, loops, 0, 0, 0])
+    let kinds = [CELL, ANY_SIGNED, LOOPS];
+    put_row(buf, aa, b'R', &kinds, [cell, bits, loops, 0, 0, 0])
 }

@@ -5,14 +5,14 @@ ghost use Rattle.machine.specs.Answers.{resolution_place, preset_value, output_v
 
 use machine::{Presets, Remaining, Resolution, State};
 
-// V as a number.
+// V as a number, in the word of 01's definitions, which the contracts of rows cite.
 pub fn bit(on: bool) -> u32
     ensures { result ≡ bit_of on }
 {
-    if on { 1 } else { 0 }
+    u32::from(on)
 }
 
-// The place of a value of RS in its list.
+// The place of a value of RS in its list. The type is machine's, so no `From` can stand here.
 fn resolution_place(resolution: Resolution) -> u32
     ensures { result ≡ resolution_place resolution }
 {
@@ -29,40 +29,33 @@ fn resolution_place(resolution: Resolution) -> u32
 }
 
 // The value of a preset by its place in AD, IN, RS, ES, CM.
+#[tactic(auto, unfolding(machine::specs::Answers::preset_value, laws::specs::Tests::choose))]
 pub fn preset_value(preset: u8, presets: Presets) -> u32
     ensures { result ≡ preset_value preset presets }
 {
-    if preset == 0 {
-        return presets.address.0 as u32;
+    match preset {
+        0 => u32::from(presets.address.0),
+        1 => u32::from(presets.current),
+        2 => resolution_place(presets.resolution),
+        3 => bit(presets.interlock),
+        _ => bit(presets.absolute),
     }
-    if preset == 1 {
-        return presets.current as u32;
-    }
-    if preset == 2 {
-        let resolution = presets.resolution;
-        return resolution_place(resolution);
-    }
-    if preset == 3 {
-        return bit(presets.interlock);
-    }
-    bit(presets.absolute)
 }
 
 // The outputs, then BS, always 0, and FA, always 1.
+#[tactic(auto, unfolding(machine::specs::Answers::output_value, laws::specs::Tests::choose))]
 pub fn output_value(output: u8, state: State) -> u32
     ensures { result ≡ output_value output state }
 {
-    if output < 14 {
-        let i = output as usize;
-        return bit(state.outputs[i]);
+    match output {
+        0..=13 => bit(state.outputs[usize::from(output)]),
+        14 => 0,
+        _ => 1,
     }
-    if output == 14 {
-        return 0;
-    }
-    1
 }
 
 // A rest as a signed number of 32 bits.
+#[tactic(auto, unfolding(machine::specs::Answers::remaining_bits))]
 pub fn remaining_bits(remaining: Remaining) -> u32
     ensures { result ≡ remaining_bits remaining }
 {

@@ -2,6 +2,7 @@
 -- Assumes nothing.
 use Rattle.std.proofs.Common.{◌≡◌, ℕ, ◌-◌, ◌^◌, List, [], ◌∷◌, ◌++◌, map, replicate, refl}
 use Prim.Native.String.{String}
+use Rattle.std.specs.Prelude.{Result, Ok, Err}
 use Rattle.laws.specs.Tests.{choose, both, either}
 use Rattle.laws.specs.Text.{bytes}
 use Rattle.scan.specs.Bytes.{index_after}
@@ -22,7 +23,7 @@ use Rattle.script.specs.declared.call.Complaint.{Complaint}
 use Rattle.script.specs.declared.call.Complaint.TheVariants.{NotACall, MissingOrExtraWord, NotANumber}
 use Rattle.script.specs.declared.call.Complaint.TheVariants.{NumberTooLarge, NotHex, NotImageHex, UnknownName}
 use Rattle.script.specs.declared.call.Call.{Call}
-use Rattle.script.specs.declared.call.Call.TheVariants.{Comment, Malformed, Fresh, Tell, Happens, Wait, Looks, Writes, Save, Load}
+use Rattle.script.specs.declared.call.Call.TheVariants.{Comment, Fresh, Tell, Happens, Wait, Looks, Writes, Save, Load}
 
 -- every definition that a line goes through
 computing : Unit {0}
@@ -40,13 +41,13 @@ computing = tt
 -- a line, and the call that must come
 record Case : Type 0 where
   line : String
-  call : Call
+  call : Result Call Complaint
 
 abbrev gives : String → Call → Case
-gives s z = record { line = s; call = z }
+gives s z = record { line = s; call = Ok z }
 
 abbrev wrong : String → Complaint → Case
-wrong s c = gives s (Malformed c)
+wrong s c = record { line = s; call = Err c }
 
 -- a line of each letter
 abbrev letters : List Case
@@ -140,7 +141,7 @@ texts = refl
 longest :
     map (λ (n : ℕ). call_of (bytes "S " ++ replicate n 48 ++ bytes " 0 0")) (512 ∷ 514 ∷ [])
     ++ map (λ (n : ℕ). call_of (bytes "L " ++ replicate n 48)) (4096 ∷ 4098 ∷ [])
-    ≡ Tell 256 0 0 ∷ Malformed NotHex ∷ Load 2048 ∷ Malformed NotImageHex ∷ []
+    ≡ Ok (Tell 256 0 0) ∷ Err NotHex ∷ Ok (Load 2048) ∷ Err NotImageHex ∷ []
 unfolding computing
 longest = refl
 

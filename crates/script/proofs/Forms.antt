@@ -1,16 +1,15 @@
 -- What the form of a line says, by how many words it asks.
 -- Assumes nothing.
-use Rattle.std.proofs.Common.{◌≡◌, ℕ, Bool, true, false, eqb, List, [], ◌∷◌, get_or, refl, arith}
+use Rattle.std.proofs.Common.{◌≡◌, ℕ, Bool, true, false, eqb, List, [], get_or, refl, arith}
+use Rattle.std.specs.Prelude.{Ok}
 use Rattle.laws.specs.Tests.{choose}
 use Rattle.laws.specs.Text.{bytes}
 use Rattle.laws.proofs.Tests.{choose-by}
-use Rattle.laws.proofs.Telling.{told, Unequal}
+use Rattle.laws.proofs.Telling.{told}
 use Rattle.script.specs.Numbers.{unsigned_of}
 use Rattle.script.specs.Hex.{text_of}
 use Rattle.script.specs.Calls.{Form, form_in, form_of, word_count, on_number, alone_call, number_call, string_of, save_of, load_of, formed, formed_text}
 use Rattle.script.specs.Calls.Form.{Alone, WithNumber, WithString, WithBuffer, WithImage, NoForm}
-use Rattle.script.specs.declared.call.Look.TheVariants.{Rounding, Reading}
-use Rattle.script.specs.declared.call.Call.TheVariants.{Looks}
 
 -- an image has as many words as a number
 unfoldable pub is_image : Form → Bool
@@ -31,7 +30,7 @@ image-count WithImage n = absurd (n refl)
 image-count NoForm n = refl
 
 module _ (words : List (List ℕ)) where
-  pub formed-alone : (f : Form) → word_count f ≡ 1 → formed f words ≡ alone_call f
+  pub formed-alone : (f : Form) → word_count f ≡ 1 → formed f words ≡ Ok (alone_call f)
   unfolding word_count formed alone_call
   formed-alone (Alone call) e = refl
   formed-alone (WithNumber call) e = absurd (omega arith)
@@ -97,73 +96,6 @@ module _ (words : List (List ℕ)) where
     text-kept WithBuffer n i = refl
     text-kept WithImage n i = cc
     text-kept NoForm n i = refl
-
--- the letters of the table, and one that is none of them
-abbrev pub letters : List ℕ
-letters = 70 ∷ 83 ∷ 73 ∷ 77 ∷ 80 ∷ 65 ∷ 72 ∷ 87 ∷ 66 ∷ 82 ∷ 81 ∷ 79 ∷ 76 ∷ 84 ∷ 85 ∷ 86 ∷ 88 ∷ []
-
-pub words-other : (letter : ℕ) → Unequal letter letters → 0 ≡ word_count (form_of letter)
-unfolding form_of form_in word_count choose bytes
-words-other letter n =
-    let m = n.1.1.1.1.1.1 in
-    simp (
-      n.0,
-      n.1.0,
-      n.1.1.0,
-      n.1.1.1.0,
-      n.1.1.1.1.0,
-      n.1.1.1.1.1.0,
-      m.0,
-      m.1.0,
-      m.1.1.0,
-      m.1.1.1.0,
-      m.1.1.1.1.0,
-      m.1.1.1.1.1.0,
-      m.1.1.1.1.1.1.0,
-      m.1.1.1.1.1.1.1.0,
-      m.1.1.1.1.1.1.1.1.0,
-      m.1.1.1.1.1.1.1.1.1.0,
-      m.1.1.1.1.1.1.1.1.1.1.0,
-    )
-
--- a letter that is none of those alone that the code tells apart, and none of those with a number
-pub alone-other :
-    (letter : ℕ) → eqb letter 77 ≡ false → eqb letter 80 ≡ false → eqb letter 65 ≡ false → eqb letter 72 ≡ false → eqb letter 66 ≡ false →
-    eqb letter 85 ≡ false → eqb letter 86 ≡ false → eqb letter 88 ≡ false → Looks Reading ≡ alone_call (form_of letter)
-unfolding form_of form_in alone_call choose bytes
-alone-other letter m p a h b u v x =
-    let P : Form → Type 0 = λ f. Looks Reading ≡ alone_call f in
-    simp (m, p, a, h, b, u, v, x)
-    (choose-by P (eqb letter 70) (λ t. refl)
-    (λ t. choose-by P (eqb letter 83) (λ s. refl)
-    (λ s. choose-by P (eqb letter 73) (λ r. refl)
-    (λ r. choose-by P (eqb letter 87) (λ w. refl)
-    (λ w. choose-by P (eqb letter 82) (λ q. refl)
-    (λ q. choose-by P (eqb letter 81) (λ y. refl)
-    (λ y. choose-by P (eqb letter 79) (λ z. refl)
-    (λ z. choose-by P (eqb letter 76) (λ a. refl)
-    (λ a. choose-by P (eqb letter 84) (λ b. refl) (λ b. refl))))))))))
-
-pub number-other :
-    (letter v : ℕ) → eqb letter 70 ≡ false → eqb letter 73 ≡ false → eqb letter 87 ≡ false → eqb letter 84 ≡ false →
-    Looks (Rounding v) ≡ number_call (form_of letter) v
-unfolding form_of form_in number_call choose bytes
-number-other letter v f i w t =
-    let P : Form → Type 0 = λ f. Looks (Rounding v) ≡ number_call f v in
-    simp (f, i, w, t)
-    (choose-by P (eqb letter 83) (λ s. refl)
-    (λ s. choose-by P (eqb letter 77) (λ u. refl)
-    (λ u. choose-by P (eqb letter 80) (λ x. refl)
-    (λ x. choose-by P (eqb letter 65) (λ y. refl)
-    (λ y. choose-by P (eqb letter 72) (λ z. refl)
-    (λ z. choose-by P (eqb letter 66) (λ a. refl)
-    (λ a. choose-by P (eqb letter 82) (λ b. refl)
-    (λ b. choose-by P (eqb letter 81) (λ c. refl)
-    (λ c. choose-by P (eqb letter 79) (λ d. refl)
-    (λ d. choose-by P (eqb letter 76) (λ e. refl)
-    (λ e. choose-by P (eqb letter 85) (λ g. refl)
-    (λ g. choose-by P (eqb letter 86) (λ h. refl)
-    (λ h. choose-by P (eqb letter 88) (λ j. refl) (λ j. refl))))))))))))))
 
 -- of the letters only L is for an image
 pub image-other : (letter : ℕ) → eqb letter 76 ≡ false → is_image (form_of letter) ≡ false

@@ -28,9 +28,9 @@ same-eq (a ∷ s) (b ∷ bs) t =
     cc
 
 -- what tells equal bytes is the test
-pub same-as : (r : Bool) (a b : List ℕ) → (r ≡ true → a ≡ b) → (a ≡ b → r ≡ true) → r ≡ same_bytes a b
-same-as true a b f g = sym (ap (λ (x : List ℕ). same_bytes x b) (f refl) ∙ same_refl b)
-same-as false a b f g = otherwise (same_bytes a b) refl
+pub same_as : (r : Bool) (a b : List ℕ) → (r ≡ true → a ≡ b) → (a ≡ b → r ≡ true) → r ≡ same_bytes a b
+same_as true a b f g = sym (ap (λ (x : List ℕ). same_bytes x b) (f refl) ∙ same_refl b)
+same_as false a b f g = otherwise (same_bytes a b) refl
   where
     otherwise : (t : Bool) → same_bytes a b ≡ t → false ≡ t
     otherwise true e = g (same-eq a b e)
@@ -101,9 +101,9 @@ pub names-split : field_names ≡ earlier ++ later
 unfolding field_names parts_of parts_from in_first bytes
 names-split = refl
 
-pub names-count : (length earlier ≡ 9) × ((length later ≡ 10) × (length field_names ≡ 19))
+pub names_count : (length earlier ≡ 9) × ((length later ≡ 10) × (length field_names ≡ 19))
 unfolding field_names parts_of parts_from in_first bytes
-names-count = (refl, (refl, refl))
+names_count = (refl, (refl, refl))
 
 pub signed-places : signed_places ≡ 5 ∷ 8 ∷ 12 ∷ 16 ∷ []
 unfolding signed_places place_of same_bytes both index_after field_names parts_of parts_from in_first bytes

@@ -1,21 +1,20 @@
 -- One turn of each loop: a number's digits, a string's digits by two, a cell's numbers.
 -- Assumes nothing.
-use Rattle.std.proofs.Common.{◌≡◌, ℕ, suc, ◌+◌, ◌-◌, ◌*◌, ◌^◌, ◌<◌, ◌≤◌, true, false, eqb, ltb, leb, List, [], ◌∷◌, length, get_or, take, drop, set, sym, refl, ap, ◌∙◌, ⊎_elim, add-one, arith, length-drop, drop_of_length-le, take_all, drop-cons, le-ltb, lt-ltb}
+use Rattle.std.proofs.Common.{◌≡◌, ℕ, suc, ◌+◌, ◌-◌, ◌*◌, ◌^◌, ◌<◌, ◌≤◌, true, false, ltb, leb, List, [], ◌∷◌, length, get_or, take, drop, set, sym, refl, ap, ◌∙◌, ⊎_elim, add-one, arith, drop_of_length-le, drop-cons, le-ltb, lt-ltb}
 use lib.Seq.{sets, drop-length, take-nil}
 use Rattle.laws.specs.Tests.{choose, both}
 use Rattle.laws.proofs.Tests.{choose-by, choose-true, choose-false, lt-or-le}
 use Rattle.decimal.specs.Parsing.{value_from}
-use Rattle.decimal.specs.declared.parse.Number.{Number}
-use Rattle.decimal.specs.declared.parse.Number.TheVariants.{Value, Bad}
-use Rattle.script.specs.Numbers.{unsigned_of, positive, negative, integer_of}
+use Rattle.std.specs.Prelude.{is_some}
+use Rattle.std.specs.declared.option.Option.{Option}
+use Rattle.std.specs.declared.option.Option.TheVariants.{Some, None}
+use Rattle.script.specs.Numbers.{unsigned_of, integer_of}
 use Rattle.script.specs.Hex.{nibble_of, pair_of, byte_before, bytes_of, is_hex}
 use Rattle.script.specs.Writes.{is_integer, integer_before, are_integers, integers_of, integer_put}
-use Rattle.script.specs.declared.numbers.Integer.{Integer}
-use Rattle.script.specs.declared.numbers.Integer.TheVariants as integer
 
 -- ---- the digits of a number
 
-pub unsigned-none : (s : List ℕ) → length s ≡ 0 → unsigned_of s ≡ Bad
+pub unsigned-none : (s : List ℕ) → length s ≡ 0 → unsigned_of s ≡ None
 unfolding unsigned_of
 unsigned-none [] h = refl
 unsigned-none (b ∷ s) h = absurd (omega arith)
@@ -28,45 +27,25 @@ unsigned-some (b ∷ s) h = refl
 pub value-turn :
     (a : ℕ) (s : List ℕ) (i : ℕ) → i < length s →
     value_from a (drop i s)
-    ≡ choose (leb 48 (get_or s i 0)) (choose (leb (get_or s i 0) 57) (value_from (a * 10 + (get_or s i 0 - 48)) (drop (i + 1) s)) Bad) Bad
+    ≡ choose (leb 48 (get_or s i 0)) (choose (leb (get_or s i 0) 57) (value_from (a * 10 + (get_or s i 0 - 48)) (drop (i + 1) s)) None) None
 unfolding value_from
 value-turn a s i h = rw (add-one i, drop-cons s i 0 h)
 
 -- a value that has no room gets none by further digits
-pub value-large : (a : ℕ) (s : List ℕ) → 2 ^ 32 ≤ a → value_from a s ≡ Bad
+pub value-large : (a : ℕ) (s : List ℕ) → 2 ^ 32 ≤ a → value_from a s ≡ None
 unfolding value_from
 value-large a [] h = choose-false _ _ _ (le-ltb a (2 ^ 32) h)
 value-large a (b ∷ s) h =
-    choose-by (λ (x : Number). x ≡ Bad) (leb 48 b)
-    (λ t. choose-by (λ (x : Number). x ≡ Bad) (leb b 57) (λ u. value-large (a * 10 + (b - 48)) s (omega arith)) (λ u. refl)) (λ t. refl)
+    choose-by (λ (x : Option ℕ). x ≡ None) (leb 48 b)
+    (λ t. choose-by (λ (x : Option ℕ). x ≡ None) (leb b 57) (λ u. value-large (a * 10 + (b - 48)) s (omega arith)) (λ u. refl)) (λ t. refl)
 
-pub value-end : (a : ℕ) (s : List ℕ) (i : ℕ) → i ≡ length s → a < 2 ^ 32 → value_from a (drop i s) ≡ Value a
+pub value-end : (a : ℕ) (s : List ℕ) (i : ℕ) → i ≡ length s → a < 2 ^ 32 → value_from a (drop i s) ≡ Some a
 unfolding value_from
 value-end a s i e h = rw (e, drop-length s) (choose-true _ _ _ (lt-ltb a (2 ^ 32) h))
 
--- ---- a sign
-
-pub integer-none : (s : List ℕ) → length s ≡ 0 → integer_of s ≡ integer.Bad
-unfolding integer_of
-integer-none [] h = refl
-integer-none (b ∷ s) h = absurd (omega arith)
-
-pub integer-some :
-    (s : List ℕ) → 0 < length s →
-    integer_of s
-    ≡ choose (eqb (get_or s 0 0) 45) (negative (unsigned_of (drop 1 s)))
-    (choose (eqb (get_or s 0 0) 43) (positive (unsigned_of (drop 1 s))) (positive (unsigned_of s)))
-unfolding integer_of
-integer-some [] h = absurd (omega arith)
-integer-some (b ∷ s) h = refl
-
--- the part from 1 to the end
-pub tail_all : (s : List ℕ) → take (length s - 1) (drop 1 s) ≡ drop 1 s
-tail_all s = take_all (length s - 1) (drop 1 s) (simp length-drop (omega arith))
-
 -- ---- the digits of a string, by two
 
-abbrev pub pair_at : List ℕ → ℕ → ℕ
+abbrev pub pair_at : List ℕ → ℕ → Option ℕ
 pair_at s j = pair_of (nibble_of (get_or s j 0)) (nibble_of (get_or s (j + 1) 0))
 
 two-more : (s : List ℕ) (j : ℕ) → j + 1 < length s → drop j s ≡ get_or s j 0 ∷ get_or s (j + 1) 0 ∷ drop (j + 2) s
@@ -77,7 +56,7 @@ two-more s j h =
     ∙ ap (λ (k : ℕ). get_or s j 0 ∷ drop k s) more
     ∙ ap (λ (l : List ℕ). get_or s j 0 ∷ l) (drop-cons s (j + 1) 0 h ∙ ap (λ (k : ℕ). get_or s (j + 1) 0 ∷ drop k s) twice)
 
-pub hex-turn : (s : List ℕ) (j : ℕ) → j + 1 < length s → is_hex (drop j s) ≡ both (ltb (pair_at s j) 256) (is_hex (drop (j + 2) s))
+pub hex-turn : (s : List ℕ) (j : ℕ) → j + 1 < length s → is_hex (drop j s) ≡ both (is_some (pair_at s j)) (is_hex (drop (j + 2) s))
 unfolding is_hex
 hex-turn s j h = ap is_hex (two-more s j h)
 
@@ -117,13 +96,13 @@ rest_end ws numbers k h = rest-none ws numbers k (rw (drop_of_length-le ws h))
 
 -- a word that is an integer
 rest-next :
-    (ws : List (List ℕ)) (numbers : List ℕ) (k v : ℕ) → 2 ≤ k → k < length ws → integer_of (get_or ws k []) ≡ integer.Value v →
+    (ws : List (List ℕ)) (numbers : List ℕ) (k v : ℕ) → 2 ≤ k → k < length ws → integer_of (get_or ws k []) ≡ Some v →
     rest ws numbers k ≡ rest ws (choose (ltb (k - 2) 7) (set numbers (k - 2) v) numbers) (k + 1)
 unfolding integer_before
 rest-next ws numbers k v two h e = ⊎_elim inside outside (lt-or-le (k - 2) 7)
   where
     turn : integers_of (drop k ws) ≡ v ∷ integers_of (drop (k + 1) ws)
-    turn = integers-turn ws k h ∙ ap (λ (n : Integer). integer_before n (integers_of (drop (k + 1) ws))) e
+    turn = integers-turn ws k h ∙ ap (λ (n : Option ℕ). integer_before n (integers_of (drop (k + 1) ws))) e
 
     inside : k - 2 < 7 → rest ws numbers k ≡ rest ws (choose (ltb (k - 2) 7) (set numbers (k - 2) v) numbers) (k + 1)
     inside l =
@@ -145,17 +124,17 @@ rest-next ws numbers k v two h e = ⊎_elim inside outside (lt-or-le (k - 2) 7)
 module _ (ws : List (List ℕ)) (numbers : List ℕ) (k : ℕ) where
   -- after the word at k is put, what is left is from the next on
   pub rest_put :
-      (n : Integer) → n ≡ integer_of (get_or ws k []) → 2 ≤ k → k < length ws → is_integer n ≡ true →
+      (n : Option ℕ) → n ≡ integer_of (get_or ws k []) → 2 ≤ k → k < length ws → is_integer n ≡ true →
       rest ws numbers k ≡ rest ws (integer_put n (k - 2) numbers) (k + 1)
   unfolding is_integer integer_put
-  rest_put (integer.Value v) e two h t = rest-next ws numbers k v two h (sym e)
-  rest_put integer.Bad e two h t = cc
+  rest_put (Some v) e two h t = rest-next ws numbers k v two h (sym e)
+  rest_put None e two h t = cc
 
   pub rest-stop :
-      (n : Integer) → n ≡ integer_of (get_or ws k []) → k < length ws → is_integer n ≡ false → integer_put n (k - 2) numbers ≡ rest ws numbers k
+      (n : Option ℕ) → n ≡ integer_of (get_or ws k []) → k < length ws → is_integer n ≡ false → integer_put n (k - 2) numbers ≡ rest ws numbers k
   unfolding is_integer integer_put integer_before
-  rest-stop (integer.Value v) e h t = cc
-  rest-stop integer.Bad e h t =
+  rest-stop (Some v) e h t = cc
+  rest-stop None e h t =
       let none : integers_of (drop k ws) ≡ [] =
-      integers-turn ws k h ∙ ap (λ (n : Integer). integer_before n (integers_of (drop (k + 1) ws))) (sym e) in
+      integers-turn ws k h ∙ ap (λ (n : Option ℕ). integer_before n (integers_of (drop (k + 1) ws))) (sym e) in
       sym (rest-none ws numbers k none)

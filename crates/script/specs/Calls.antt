@@ -1,24 +1,20 @@
 -- docs/SCRIPTS.md, "A script": a line as a call. Text and numbers are what the bytes of a string or an image, and a cell's numbers are put into.
 -- Assumes nothing.
-use Rattle.std.specs.Prelude.{ℕ, Bool, List, [], ◌∷◌, length, ◌==◌, nat_le, slice_index, slice_index_or}
+use Rattle.std.specs.Prelude.{ℕ, Bool, List, [], ◌∷◌, length, ◌==◌, nat_le, slice_index, slice_index_or, Option, Some, None, Result, Ok, Err}
 use Prim.Native.String.{String}
 use Rattle.laws.specs.Tests.{choose}
 use Rattle.laws.specs.Text.{bytes}
-use Rattle.decimal.specs.declared.parse.Number.{Number}
-use Rattle.decimal.specs.declared.parse.Number.TheVariants as number
 use Rattle.script.specs.Words.{words_of}
 use Rattle.script.specs.Numbers.{unsigned_of}
 use Rattle.script.specs.Hex.{decoded_of, text_of}
 use Rattle.script.specs.Writes.{write_of, numbers_of}
-use Rattle.script.specs.declared.hex.Decoded.{Decoded}
-use Rattle.script.specs.declared.hex.Decoded.TheVariants as decoded
 use Rattle.script.specs.declared.parse.Buffer.{Buffer}
-use Rattle.script.specs.declared.parse.Buffer.TheVariants as buffer
 use Rattle.script.specs.declared.call.Event.TheVariants.{Inputs, Millisecond, Step, AtSpeed, Halted}
 use Rattle.script.specs.declared.call.Look.TheVariants.{Order, Rounding, Reading, Totals, Used, Record, Image}
+use Rattle.script.specs.declared.call.Complaint.{Complaint}
 use Rattle.script.specs.declared.call.Complaint.TheVariants.{NotACall, MissingOrExtraWord, NotANumber, NumberTooLarge, NotHex, NotImageHex}
 use Rattle.script.specs.declared.call.Call.{Call}
-use Rattle.script.specs.declared.call.Call.TheVariants.{Comment, Malformed, Fresh, Tell, Happens, Wait, Looks, Save, Load}
+use Rattle.script.specs.declared.call.Call.TheVariants.{Comment, Fresh, Tell, Happens, Wait, Looks, Save, Load}
 
 -- what follows a line's letter: nothing, a number, a string with its buffer, a buffer for an image, or an image; or no line begins so
 pub data Form : Type 0 where
@@ -77,40 +73,40 @@ word_count WithBuffer = 3
 word_count WithImage = 2
 word_count NoForm = 0
 
-unfoldable pub on_number : (ℕ → Call) → Number → Call
-on_number call (number.Value v) = call v
-on_number call number.Bad = Malformed NotANumber
+unfoldable pub on_number : (ℕ → Call) → Option ℕ → Result Call Complaint
+on_number call (Some v) = Ok (call v)
+on_number call None = Err NotANumber
 
 -- "a buffer of n bytes .., each of value b": the first word that is wrong is complained of
-unfoldable pub buffer_of : ℕ → Number → Number → Buffer
-buffer_of most number.Bad fill = buffer.Wrong NotANumber
-buffer_of most (number.Value size) number.Bad = buffer.Wrong NotANumber
-buffer_of most (number.Value size) (number.Value fill) =
-    choose (nat_le size most) (choose (nat_le fill 255) (buffer.Of size fill) (buffer.Wrong NumberTooLarge)) (buffer.Wrong NumberTooLarge)
+unfoldable pub buffer_of : ℕ → Option ℕ → Option ℕ → Result Buffer Complaint
+buffer_of most None fill = Err NotANumber
+buffer_of most (Some size) None = Err NotANumber
+buffer_of most (Some size) (Some fill) =
+    choose (nat_le size most) (choose (nat_le fill 255) (Ok (record { size = size; fill = fill })) (Err NumberTooLarge)) (Err NumberTooLarge)
 
-unfoldable pub on_buffer : (ℕ → ℕ → Call) → Buffer → Call
-on_buffer call (buffer.Of size fill) = call size fill
-on_buffer call (buffer.Wrong complaint) = Malformed complaint
+unfoldable pub on_buffer : (ℕ → ℕ → Call) → Result Buffer Complaint → Result Call Complaint
+on_buffer call (Ok b) = Ok (call b.size b.fill)
+on_buffer call (Err complaint) = Err complaint
 
 -- "`S hex n b`": "an answer buffer of n bytes (0 to 256)"
-unfoldable pub string_with : Decoded → Buffer → Call
-string_with decoded.Bad b = Malformed NotHex
-string_with (decoded.Bytes n) b = on_buffer (Tell n) b
+unfoldable pub string_with : Option ℕ → Result Buffer Complaint → Result Call Complaint
+string_with None b = Err NotHex
+string_with (Some n) b = on_buffer (Tell n) b
 
-unfoldable pub string_of : List (List ℕ) → Call
+unfoldable pub string_of : List (List ℕ) → Result Call Complaint
 string_of words =
     string_with (decoded_of 256 (slice_index_or words 1 [])) (buffer_of 256 (unsigned_of (slice_index_or words 2 [])) (unsigned_of (slice_index_or words 3 [])))
 
 -- "`O n b`": "a buffer of n bytes (0 to 2048)"
-unfoldable pub save_of : List (List ℕ) → Call
+unfoldable pub save_of : List (List ℕ) → Result Call Complaint
 save_of words = on_buffer Save (buffer_of 2048 (unsigned_of (slice_index_or words 1 [])) (unsigned_of (slice_index_or words 2 [])))
 
 -- "`L hex`"
-unfoldable pub load_with : Decoded → Call
-load_with decoded.Bad = Malformed NotImageHex
-load_with (decoded.Bytes n) = Load n
+unfoldable pub load_with : Option ℕ → Result Call Complaint
+load_with None = Err NotImageHex
+load_with (Some n) = Ok (Load n)
 
-unfoldable pub load_of : List (List ℕ) → Call
+unfoldable pub load_of : List (List ℕ) → Result Call Complaint
 load_of words = load_with (decoded_of 2048 (slice_index_or words 1 []))
 
 -- the call of a form alone, and of one with a number; of any other form that of Q, and of R
@@ -131,18 +127,18 @@ number_call WithImage v = Looks (Rounding v)
 number_call NoForm v = Looks (Rounding v)
 
 -- the call of a line that has as many words as its form asks
-unfoldable pub formed : Form → List (List ℕ) → Call
-formed (Alone call) words = call
+unfoldable pub formed : Form → List (List ℕ) → Result Call Complaint
+formed (Alone call) words = Ok call
 formed (WithNumber call) words = on_number call (unsigned_of (slice_index_or words 1 []))
 formed WithString words = string_of words
 formed WithBuffer words = save_of words
 formed WithImage words = load_of words
-formed NoForm words = Malformed NotACall
+formed NoForm words = Err NotACall
 
-unfoldable pub counted : Form → List (List ℕ) → Call
+unfoldable pub counted : Form → List (List ℕ) → Result Call Complaint
 counted form words =
-    choose (word_count form == 0) (Malformed NotACall)
-    (choose (length words == word_count form) (formed form words) (Malformed MissingOrExtraWord))
+    choose (word_count form == 0) (Err NotACall)
+    (choose (length words == word_count form) (formed form words) (Err MissingOrExtraWord))
 
 -- "`# ..`": also without a space behind it
 unfoldable pub is_comment : List ℕ → Bool
@@ -152,12 +148,12 @@ is_comment line = slice_index line 0 == 35
 unfoldable pub first_letter : List (List ℕ) → ℕ
 first_letter words = choose (length (slice_index_or words 0 []) == 1) (slice_index (slice_index_or words 0 []) 0) 0
 
-unfoldable pub of_letter : ℕ → List (List ℕ) → Call
+unfoldable pub of_letter : ℕ → List (List ℕ) → Result Call Complaint
 of_letter letter words = choose (letter == (letter_of "K")) (write_of words) (counted (form_of letter) words)
 
 -- the call of a line, or what is wrong with it
-unfoldable pub call_of : List ℕ → Call
-call_of line = choose (is_comment line) Comment (of_letter (first_letter (words_of line)) (words_of line))
+unfoldable pub call_of : List ℕ → Result Call Complaint
+call_of line = choose (is_comment line) (Ok Comment) (of_letter (first_letter (words_of line)) (words_of line))
 
 -- ---- text and numbers after a line
 

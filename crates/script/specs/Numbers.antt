@@ -1,30 +1,27 @@
 -- A word as a number: "Numbers are decimal, unsigned unless said, at most 4294967295."
 -- Assumes nothing.
-use Rattle.std.specs.Prelude.{ℕ, ◌-◌, ◌%◌, ◌^◌, List, [], ◌∷◌, ◌==◌}
+use Rattle.std.specs.Prelude.{ℕ, ◌-◌, ◌%◌, ◌^◌, List, [], ◌∷◌, ◌==◌, Option, Some, None}
 use Rattle.laws.specs.Tests.{choose}
 use Rattle.decimal.specs.Parsing.{value_from}
-use Rattle.decimal.specs.declared.parse.Number.{Number}
-use Rattle.decimal.specs.declared.parse.Number.TheVariants as number
-use Rattle.script.specs.declared.numbers.Integer.{Integer}
-use Rattle.script.specs.declared.numbers.Integer.TheVariants as integer
 
 -- one digit or more, also with zeros in front
-unfoldable pub unsigned_of : List ℕ → Number
-unsigned_of [] = number.Bad
+unfoldable pub unsigned_of : List ℕ → Option ℕ
+unsigned_of [] = None
 unsigned_of (b ∷ bs) = value_from 0 (b ∷ bs)
 
-unfoldable pub positive : Number → Integer
-positive (number.Value v) = integer.Value v
-positive number.Bad = integer.Bad
+-- a number, as 64 bits
+unfoldable pub positive : Option ℕ → Option ℕ
+positive (Some v) = Some v
+positive None = None
 
 -- minus a number, as 64 bits in two's complement
-unfoldable pub negative : Number → Integer
-negative (number.Value v) = integer.Value ((2 ^ 64 - v) % 2 ^ 64)
-negative number.Bad = integer.Bad
+unfoldable pub negative : Option ℕ → Option ℕ
+negative (Some v) = Some ((2 ^ 64 - v) % 2 ^ 64)
+negative None = None
 
 -- "may carry a sign, and lie within 4,294,967,295 either way"
-unfoldable pub integer_of : List ℕ → Integer
-integer_of [] = integer.Bad
+unfoldable pub integer_of : List ℕ → Option ℕ
+integer_of [] = None
 integer_of (b ∷ bs) =
     choose (b == 45) (negative (unsigned_of bs))
     (choose (b == 43) (positive (unsigned_of bs)) (positive (unsigned_of (b ∷ bs))))

@@ -1,6 +1,6 @@
 // A call of a script, and what is wrong with a line that is none.
 
-#[derive(Clone, Copy)]
+#[derive(Clone, Copy, PartialEq, Eq)]
 pub enum Complaint {
     NotACall,
     MissingOrExtraWord,
@@ -49,9 +49,8 @@ pub enum Write {
 #[derive(Clone, Copy)]
 pub enum Call {
     Comment,
-    Malformed(Complaint),
     Fresh(u32),
-    // The bytes stand at the front of the text.
+    // The bytes stand at the front of the text: memory is fixed, and a call is copied.
     Tell {
         length: usize,
         size: usize,

@@ -28,8 +28,5 @@ pub fn place_of(name: &[u8]) -> usize
 pub fn is_signed(place: usize) -> bool
     ensures { result ≡ is_signed place }
 {
-    match place {
-        5 | 8 | 12 | 16 => true,
-        _ => false,
-    }
+    matches!(place, 5 | 8 | 12 | 16)
 }

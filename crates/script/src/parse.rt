@@ -1,17 +1,15 @@
 // A line of a script as a call.
-ghost use Rattle.std.specs.Prelude.{◌≡◌, [], length, slice_index_or};
+ghost use Rattle.std.specs.Prelude.{◌≡◌, [], slice_index_or};
 ghost use Rattle.script.specs.Words.{words_of};
 ghost use Rattle.script.specs.Hex.{text_of};
 ghost use Rattle.script.specs.Calls.{form_of, word_count, alone_call, number_call, on_number};
-ghost use Rattle.script.specs.Calls.{buffer_of, on_buffer, string_of, save_of, load_of};
-ghost use Rattle.script.specs.declared.call.Call.TheVariants.{Tell, Save};
+ghost use Rattle.script.specs.Calls.{buffer_of, string_of, save_of, load_of};
 ghost use Rattle.script.specs.Calls.{formed, formed_text, counted, counted_text};
 ghost use Rattle.script.specs.Calls.{is_comment, call_of, text_after, numbers_after};
 
 use crate::call::{Call, Complaint, Event, Look};
-use crate::hex::Decoded;
-use crate::{hex, numbers, words, writes};
-use decimal::parse::Number;
+use crate::words::Line;
+use crate::{hex, numbers, writes};
 
 // How many bytes a string has at most, and an image.
 const LONGEST_STRING: usize = 256;
@@ -19,6 +17,7 @@ const LONGEST_STRING: usize = 256;
 const LONGEST_IMAGE: usize = 2048;
 
 // How many words the calls have; 0 where the letter names none.
+#[tactic(auto, unfolding(crate::specs::Calls::word_count, crate::specs::Calls::form_of, crate::specs::Calls::form_in, laws::specs::Tests::choose, laws::specs::Text::bytes))]
 fn words_of(letter: u8) -> usize
     ensures { result ≡ word_count (form_of letter) }
 {
@@ -44,6 +43,7 @@ fn words_of(letter: u8) -> usize
     }
 }
 
+#[tactic(auto, unfolding(crate::specs::Calls::alone_call, crate::specs::Calls::form_of, crate::specs::Calls::form_in, laws::specs::Tests::choose, laws::specs::Text::bytes))]
 fn plain(letter: u8) -> Call
     ensures { result ≡ alone_call (form_of letter) }
 {
@@ -60,12 +60,10 @@ fn plain(letter: u8) -> Call
     }
 }
 
-fn with_number(letter: u8, number: Number) -> Call
-    ensures { result ≡ on_number (number_call (form_of letter)) number }
+#[tactic(auto, unfolding(crate::specs::Calls::number_call, crate::specs::Calls::form_of, crate::specs::Calls::form_in, laws::specs::Tests::choose, laws::specs::Text::bytes))]
+fn number_call(letter: u8, v: u32) -> Call
+    ensures { result ≡ number_call (form_of letter) v }
 {
-    let Number::Value(v) = number else {
-        return Call::Malformed(Complaint::NotANumber);
-    };
     match letter {
         b'F' => Call::Fresh(v),
         b'I' => Call::Happens(Event::Inputs(v)),
@@ -75,102 +73,87 @@ fn with_number(letter: u8, number: Number) -> Call
     }
 }
 
-// A buffer to be lent, so many bytes of one value; or what is wrong with its two words.
-#[derive(Clone, Copy)]
-enum Buffer {
-    Of { size: usize, fill: u8 },
-    Wrong(Complaint),
+#[tactic(auto, unfolding(crate::specs::Calls::on_number))]
+fn with_number(letter: u8, number: Option<u32>) -> Result<Call, Complaint>
+    ensures { result ≡ on_number (number_call (form_of letter)) number }
+{
+    let v = number.ok_or(Complaint::NotANumber)?;
+    Ok(number_call(letter, v))
 }
 
-fn buffer_of(first: Number, second: Number, most: u32) -> Buffer
+// A buffer to be lent, so many bytes of one value.
+#[derive(Clone, Copy)]
+struct Buffer {
+    size: usize,
+    fill: u8,
+}
+
+#[tactic(auto, unfolding(crate::specs::Calls::buffer_of, laws::specs::Tests::choose))]
+fn buffer_of(first: Option<u32>, second: Option<u32>, most: u32) -> Result<Buffer, Complaint>
     ensures { result ≡ buffer_of most first second }
 {
-    let Number::Value(size) = first else {
-        return Buffer::Wrong(Complaint::NotANumber);
-    };
-    let Number::Value(fill) = second else {
-        return Buffer::Wrong(Complaint::NotANumber);
-    };
-    if most < size {
-        return Buffer::Wrong(Complaint::NumberTooLarge);
+    let size = first.ok_or(Complaint::NotANumber)?;
+    let fill = second.ok_or(Complaint::NotANumber)?;
+    if most < size || 255 < fill {
+        return Err(Complaint::NumberTooLarge);
     }
-    if 255 < fill {
-        return Buffer::Wrong(Complaint::NumberTooLarge);
-    }
-    Buffer::Of {
+    Ok(Buffer {
         size: size as usize,
         fill: fill as u8,
-    }
+    })
 }
 
-fn tell_with(length: usize, buffer: Buffer) -> Call
-    ensures { result ≡ on_buffer (Tell length) buffer }
-{
-    match buffer {
-        Buffer::Of { size, fill } => Call::Tell { length, size, fill },
-        Buffer::Wrong(complaint) => Call::Malformed(complaint),
-    }
-}
-
-fn save_with(buffer: Buffer) -> Call
-    ensures { result ≡ on_buffer Save buffer }
-{
-    match buffer {
-        Buffer::Of { size, fill } => Call::Save { size, fill },
-        Buffer::Wrong(complaint) => Call::Malformed(complaint),
-    }
-}
-
-fn string(line: &[u8], text: &mut [u8; 2048]) -> Call
-    ensures value { result ≡ string_of (words_of line.now) }
+#[tactic(auto, unfolding(crate::specs::Calls::string_of, crate::specs::Calls::string_with, crate::specs::Calls::on_buffer))]
+fn string(line: Line, text: &mut [u8; 2048]) -> Result<Call, Complaint>
+    ensures value { result ≡ string_of (words_of line.entry.text.now) }
     ensures text { text.new ≡
-        text_of 256 (slice_index_or (words_of line.now) 1 []) text.old }
+        text_of 256 (slice_index_or (words_of line.entry.text.now) 1 []) text.old }
 {
-    let decoded = hex::decode(words::part(line, 1, b' '), LONGEST_STRING, text);
-    let Decoded::Bytes(length) = decoded else {
-        return Call::Malformed(Complaint::NotHex);
-    };
-    let first = numbers::unsigned(words::part(line, 2, b' '));
-    let second = numbers::unsigned(words::part(line, 3, b' '));
-    tell_with(length, buffer_of(first, second, 256))
+    let decoded = hex::decode(line.word(1), LONGEST_STRING, text);
+    let length = decoded.ok_or(Complaint::NotHex)?;
+    let first = numbers::unsigned(line.word(2));
+    let second = numbers::unsigned(line.word(3));
+    let Buffer { size, fill } = buffer_of(first, second, 256)?;
+    Ok(Call::Tell { length, size, fill })
 }
 
-fn save(line: &[u8]) -> Call
-    ensures { result ≡ save_of (words_of line.now) }
+#[tactic(auto, unfolding(crate::specs::Calls::save_of, crate::specs::Calls::on_buffer))]
+fn save(line: Line) -> Result<Call, Complaint>
+    ensures { result ≡ save_of (words_of line.entry.text.now) }
 {
-    let first = numbers::unsigned(words::part(line, 1, b' '));
-    let second = numbers::unsigned(words::part(line, 2, b' '));
-    save_with(buffer_of(first, second, 2048))
+    let first = numbers::unsigned(line.word(1));
+    let second = numbers::unsigned(line.word(2));
+    let Buffer { size, fill } = buffer_of(first, second, 2048)?;
+    Ok(Call::Save { size, fill })
 }
 
-fn load(line: &[u8], text: &mut [u8; 2048]) -> Call
-    ensures value { result ≡ load_of (words_of line.now) }
+#[tactic(auto, unfolding(crate::specs::Calls::load_of, crate::specs::Calls::load_with))]
+fn load(line: Line, text: &mut [u8; 2048]) -> Result<Call, Complaint>
+    ensures value { result ≡ load_of (words_of line.entry.text.now) }
     ensures text { text.new ≡
-        text_of 2048 (slice_index_or (words_of line.now) 1 []) text.old }
+        text_of 2048 (slice_index_or (words_of line.entry.text.now) 1 []) text.old }
 {
-    let decoded = hex::decode(words::part(line, 1, b' '), LONGEST_IMAGE, text);
-    let Decoded::Bytes(length) = decoded else {
-        return Call::Malformed(Complaint::NotImageHex);
-    };
-    Call::Load { length }
+    let decoded = hex::decode(line.word(1), LONGEST_IMAGE, text);
+    let length = decoded.ok_or(Complaint::NotImageHex)?;
+    Ok(Call::Load { length })
 }
 
 // The call of a line that has as many words as its letter asks.
-fn of_form(letter: u8, wanted: usize, line: &[u8], text: &mut [u8; 2048]) -> Call
+fn of_form(letter: u8, wanted: usize, line: Line, text: &mut [u8; 2048]) -> Result<Call, Complaint>
     requires wanted_value { wanted ≡ word_count (form_of letter) }
     requires not_wanted { ¬ (wanted ≡ 0) }
-    ensures value { result ≡ formed (form_of letter) (words_of line.now) }
+    ensures value { result ≡ formed (form_of letter) (words_of line.entry.text.now) }
     ensures text { text.new ≡
-        formed_text (form_of letter) (words_of line.now) text.old }
+        formed_text (form_of letter) (words_of line.entry.text.now) text.old }
 {
     if wanted == 1 {
-        return plain(letter);
+        return Ok(plain(letter));
     }
     if letter == b'L' {
         return load(line, text);
     }
     if wanted == 2 {
-        return with_number(letter, numbers::unsigned(words::part(line, 1, b' ')));
+        return with_number(letter, numbers::unsigned(line.word(1)));
     }
     if wanted == 3 {
         return save(line);
@@ -178,35 +161,33 @@ fn of_form(letter: u8, wanted: usize, line: &[u8], text: &mut [u8; 2048]) -> Cal
     string(line, text)
 }
 
-fn of_letter(letter: u8, line: &[u8], count: usize, text: &mut [u8; 2048]) -> Call
-    requires { count ≡ length (words_of line.now) }
-    ensures value { result ≡ counted (form_of letter) (words_of line.now) }
+fn of_letter(letter: u8, line: Line, text: &mut [u8; 2048]) -> Result<Call, Complaint>
+    ensures value { result ≡ counted (form_of letter) (words_of line.entry.text.now) }
     ensures text { text.new ≡
-        counted_text (form_of letter) (words_of line.now) text.old }
+        counted_text (form_of letter) (words_of line.entry.text.now) text.old }
 {
     let wanted = words_of(letter);
     if wanted == 0 {
-        return Call::Malformed(Complaint::NotACall);
+        return Err(Complaint::NotACall);
     }
-    if count != wanted {
-        return Call::Malformed(Complaint::MissingOrExtraWord);
+    if line.count != wanted {
+        return Err(Complaint::MissingOrExtraWord);
     }
     of_form(letter, wanted, line, text)
 }
 
 // Whether a line is a comment.
+#[tactic(auto, unfolding(crate::specs::Calls::is_comment))]
 fn is_comment(line: &[u8]) -> bool
     ensures { result ≡ is_comment line.now }
 {
-    if line.len() == 0 {
-        return false;
-    }
-    line[0] == b'#'
+    matches!(line, [b'#', ..])
 }
 
 // The call of a line. The bytes of a string or an image are put into the text, the numbers of a raw
 // cell into the numbers; what they leave of them is as it was.
-pub fn parse(line: &[u8], text: &mut [u8; 2048], numbers: &mut [u64; 7]) -> Call
+#[tactic(auto, unfolding(crate::specs::Calls::call_of, crate::specs::Calls::of_letter, crate::specs::Calls::text_after, crate::specs::Calls::numbers_after, crate::specs::Calls::first_letter, crate::specs::Calls::counted, crate::specs::Calls::counted_text, crate::specs::Calls::form_of, crate::specs::Calls::form_in, crate::specs::Calls::word_count, crate::specs::Calls::formed_text, laws::specs::Tests::choose, laws::specs::Text::bytes))]
+pub fn parse(line: &[u8], text: &mut [u8; 2048], numbers: &mut [u64; 7]) -> Result<Call, Complaint>
     ensures value { result ≡ call_of line.now }
     ensures text { text.new ≡
         text_after line.now text.old }
@@ -214,16 +195,16 @@ pub fn parse(line: &[u8], text: &mut [u8; 2048], numbers: &mut [u64; 7]) -> Call
         numbers_after line.now numbers.old }
 {
     if is_comment(line) {
-        return Call::Comment;
+        return Ok(Call::Comment);
     }
-    let count = words::count(line, b' ');
-    let first = words::part(line, 0, b' ');
+    let line = Line::new(line);
+    let first = line.word(0);
     if first.len() != 1 {
-        return Call::Malformed(Complaint::NotACall);
+        return Err(Complaint::NotACall);
     }
     let letter = first[0];
     if letter == b'K' {
-        return writes::parse(line, count, numbers);
+        return writes::parse(line, numbers);
     }
-    of_letter(letter, line, count, text)
+    of_letter(letter, line, text)
 }

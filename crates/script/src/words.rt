@@ -1,6 +1,6 @@
 // Text in parts. The words of a line are parted by one space, so that two spaces have an empty word
 // between them.
-ghost use Rattle.std.specs.Prelude.{◌≡◌, ◌≤◌, length, drop};
+ghost use Rattle.std.specs.Prelude.{◌≡◌, ◌≤◌, [], length, drop, slice_index_or};
 ghost use Rattle.script.specs.Words.{place_from, parts_of, part_at, words_of, place_of};
 
 // The first place from `from` on where a byte stands, or the end.
@@ -18,13 +18,11 @@ pub fn find(s: &[u8], from: usize, byte: u8) -> usize
 pub(crate) fn count(text: &[u8], separator: u8) -> usize
     ensures { result ≡ length (parts_of separator text.now) }
 {
-    let mut n: usize = 1;
-    let mut i = 0;
-    while i < text.len() {
-        if text[i] == separator {
+    let mut n = 1;
+    for byte in text {
+        if *byte == separator {
             n += 1;
         }
-        i += 1;
     }
     n
 }
@@ -34,11 +32,9 @@ fn start(text: &[u8], k: usize, separator: u8) -> usize
     ensures { part_at separator k text.now ≡
         part_at separator 0 (drop result text.now) }
 {
-    let mut at: usize = 0;
-    let mut i: usize = 0;
-    while i < k {
+    let mut at = 0;
+    for _i in 0..k {
         at = find(text, at, separator) + 1;
-        i += 1;
     }
     at
 }
@@ -55,17 +51,42 @@ pub fn part(text: &[u8], k: usize, separator: u8) -> &[u8]
     &text[from..to]
 }
 
+// A line, and how many words it has.
+#[derive(Clone, Copy)]
+pub(crate) struct Line<'a> {
+    pub text: &'a [u8],
+    pub count: usize,
+    ghost counted: { count ≡ length (words_of text.now) },
+}
+
+impl<'a> Line<'a> {
+    pub(crate) fn new(text: &'a [u8]) -> Self
+        ensures { result.text.now ≡ text.now }
+    {
+        Line {
+            text,
+            count: count(text, b' '),
+        }
+    }
+
+    // A word, counted from 0; nothing where there is none.
+    #[tactic(auto, unfolding(crate::specs::Words::part_at))]
+    pub(crate) fn word(self, k: usize) -> &'a [u8]
+        ensures { result.now ≡ slice_index_or (words_of self.entry.text.now) k [] }
+    {
+        part(self.text, k, b' ')
+    }
+}
+
 // The place of a name in a list of words, or how many there are.
 pub(crate) fn place(name: &[u8], list: &[u8]) -> usize
     ensures { result ≡ place_of name.now (words_of list.now) }
 {
     let n = count(list, b' ');
-    let mut k: usize = 0;
-    while k < n {
+    for k in 0..n {
         if check::same(part(list, k, b' '), name) {
             return k;
         }
-        k += 1;
     }
     n
 }

@@ -1,5 +1,5 @@
 // Raw writes: a field, an output or a cell, and what is to be written.
-ghost use Rattle.std.specs.Prelude.{◌≡◌, length, drop};
+ghost use Rattle.std.specs.Prelude.{◌≡◌, drop};
 ghost use Rattle.script.specs.Words.{words_of};
 ghost use Rattle.script.specs.Numbers.{integer_of};
 ghost use Rattle.script.specs.Writes.{with_value, field_of, output_of, address_of, is_cell};
@@ -8,9 +8,8 @@ ghost use Rattle.script.specs.Writes.{code_of, takes_count, cell_of, cell_number
 ghost use Rattle.script.specs.Writes.{write_of, numbers_of};
 
 use crate::call::{Call, Complaint, Write};
-use crate::numbers::Integer;
-use crate::{names, numbers, words};
-use decimal::parse::Number;
+use crate::words::Line;
+use crate::{names, numbers};
 use fields::kinds;
 use fields::kinds::Kind;
 use fields::names::Names;
@@ -23,78 +22,67 @@ const FIRST: u32 = 100;
 
 const LAST: u32 = 230;
 
-fn with_value(place: usize, number: Integer) -> Call
+#[tactic(auto, unfolding(crate::specs::Writes::with_value))]
+fn with_value(place: usize, number: Option<u64>) -> Result<Call, Complaint>
     ensures { result ≡ with_value place number }
 {
-    match number {
-        Integer::Bad => Call::Malformed(Complaint::NotANumber),
-        Integer::Value(value) => Call::Writes(Write::Field { place, value }),
-    }
+    let value = number.ok_or(Complaint::NotANumber)?;
+    Ok(Call::Writes(Write::Field { place, value }))
 }
 
-fn of_field(line: &[u8], count: usize, place: usize) -> Call
-    requires { count ≡ length (words_of line.now) }
-    ensures { result ≡ field_of (words_of line.now) place }
+#[tactic(auto, unfolding(crate::specs::Writes::field_of, laws::specs::Tests::choose))]
+fn of_field(line: Line, place: usize) -> Result<Call, Complaint>
+    ensures { result ≡ field_of (words_of line.entry.text.now) place }
 {
-    if count != 3 {
-        return Call::Malformed(Complaint::MissingOrExtraWord);
+    if line.count != 3 {
+        return Err(Complaint::MissingOrExtraWord);
     }
-    let word = words::part(line, 2, b' ');
+    let word = line.word(2);
     if names::is_signed(place) {
         return with_value(place, numbers::signed(word));
     }
     with_value(place, numbers::plus(numbers::unsigned(word)))
 }
 
-fn of_output(line: &[u8], count: usize) -> Call
-    requires { count ≡ length (words_of line.now) }
-    ensures { result ≡ output_of (words_of line.now) }
+#[tactic(auto, unfolding(crate::specs::Writes::output_of, crate::specs::Writes::named_output, crate::specs::Writes::with_output, laws::specs::Tests::choose))]
+fn of_output(line: Line) -> Result<Call, Complaint>
+    ensures { result ≡ output_of (words_of line.entry.text.now) }
 {
-    if count != 4 {
-        return Call::Malformed(Complaint::MissingOrExtraWord);
+    if line.count != 4 {
+        return Err(Complaint::MissingOrExtraWord);
     }
-    let name = kinds::parse_field(Kind::Name(Names::Outputs), words::part(line, 2, b' '));
-    let Number::Value(output) = name else {
-        return Call::Malformed(Complaint::UnknownName);
-    };
+    let name = kinds::parse_field(Kind::Name(Names::Outputs), line.word(2));
+    let output = name.ok_or(Complaint::UnknownName)?;
     if OUTPUTS <= output {
-        return Call::Malformed(Complaint::UnknownName);
+        return Err(Complaint::UnknownName);
     }
-    let number = numbers::unsigned(words::part(line, 3, b' '));
-    let Number::Value(value) = number else {
-        return Call::Malformed(Complaint::NotANumber);
-    };
-    Call::Writes(Write::Output {
+    let number = numbers::unsigned(line.word(3));
+    let value = number.ok_or(Complaint::NotANumber)?;
+    Ok(Call::Writes(Write::Output {
         place: output as usize,
         value,
-    })
+    }))
 }
 
 // The address in a name such as c100; 0 where it is none.
+#[tactic(auto, unfolding(crate::specs::Writes::address_of, crate::specs::Writes::value_or0, laws::specs::Tests::choose))]
 fn address(name: &[u8]) -> u32
     ensures { result ≡ address_of name.now }
 {
-    if name.len() != 4 {
-        return 0;
-    }
-    if name[0] != b'c' {
-        return 0;
-    }
-    let number = numbers::unsigned(&name[1..]);
-    match number {
-        Number::Bad => 0,
-        Number::Value(v) => v,
+    match name {
+        [b'c', digits @ ..] if name.len() == 4 => numbers::unsigned(digits).unwrap_or(0),
+        _ => 0,
     }
 }
 
 // Puts a number at a place if there is one; whether the word is a number.
+#[tactic(auto, unfolding(crate::specs::Writes::is_integer, crate::specs::Writes::integer_put, laws::specs::Tests::choose))]
 fn keep(word: &[u8], numbers: &mut [u64; 7], i: usize) -> bool
     ensures value { result ≡ is_integer (integer_of word.now) }
     ensures numbers { numbers.new ≡
         integer_put (integer_of word.now) i numbers.old }
 {
-    let number = numbers::signed(word);
-    let Integer::Value(value) = number else {
+    let Some(value) = numbers::signed(word) else {
         return false;
     };
     if i < 7 {
@@ -104,31 +92,26 @@ fn keep(word: &[u8], numbers: &mut [u64; 7], i: usize) -> bool
 }
 
 // The words from the third on as numbers; whether all are.
-fn keep_all(line: &[u8], count: usize, numbers: &mut [u64; 7]) -> bool
-    requires { count ≡ length (words_of line.now) }
-    ensures value { result ≡ are_integers (drop 2 (words_of line.now)) }
+#[tactic(auto, unfolding(crate::specs::Writes::filled))]
+fn keep_all(line: Line, numbers: &mut [u64; 7]) -> bool
+    ensures value { result ≡ are_integers (drop 2 (words_of line.entry.text.now)) }
     ensures numbers { numbers.new ≡
-        filled (drop 2 (words_of line.now)) numbers.old }
+        filled (drop 2 (words_of line.entry.text.now)) numbers.old }
 {
-    let mut k: usize = 2;
-    while k < count {
-        if !keep(words::part(line, k, b' '), numbers, k - 2) {
+    for k in 2..line.count {
+        if !keep(line.word(k), numbers, k - 2) {
             return false;
         }
-        k += 1;
     }
     true
 }
 
 // The code in a word; 0 where it is none.
+#[tactic(auto, unfolding(crate::specs::Writes::code_of))]
 fn code_of(word: &[u8]) -> u64
     ensures { result ≡ code_of (integer_of word.now) }
 {
-    let number = numbers::signed(word);
-    match number {
-        Integer::Bad => 0,
-        Integer::Value(code) => code,
-    }
+    numbers::signed(word).unwrap_or(0)
 }
 
 // Whether a code takes so many numbers after it. One that there is not takes any.
@@ -138,62 +121,56 @@ fn takes(code: u64, count: usize) -> bool
     if 99 < code {
         return true;
     }
-    let format = format::format_of(code as u32);
-    if !format.known {
-        return true;
+    match format::format_of(code as u32) {
+        Some([]) => count == 1,
+        Some(kinds) => count == kinds.len(),
+        None => true,
     }
-    if format.row.count == 0 {
-        return count == 1;
-    }
-    count == format.row.count
 }
 
-fn of_cell(line: &[u8], count: usize, place: usize, numbers: &mut [u64; 7]) -> Call
-    requires { count ≡ length (words_of line.now) }
-    ensures value { result ≡ cell_of (words_of line.now) place }
+#[tactic(auto, unfolding(crate::specs::Writes::cell_of, crate::specs::Writes::cell_numbers, laws::specs::Tests::choose))]
+fn of_cell(line: Line, place: usize, numbers: &mut [u64; 7]) -> Result<Call, Complaint>
+    ensures value { result ≡ cell_of (words_of line.entry.text.now) place }
     ensures numbers { numbers.new ≡
-        cell_numbers (words_of line.now) numbers.old }
+        cell_numbers (words_of line.entry.text.now) numbers.old }
 {
-    if count < 4 {
-        return Call::Malformed(Complaint::MissingOrExtraWord);
+    if line.count < 4 {
+        return Err(Complaint::MissingOrExtraWord);
     }
-    if !keep_all(line, count, numbers) {
-        return Call::Malformed(Complaint::NotANumber);
+    if !keep_all(line, numbers) {
+        return Err(Complaint::NotANumber);
     }
-    if !takes(code_of(words::part(line, 2, b' ')), count - 3) {
-        return Call::Malformed(Complaint::MissingOrExtraWord);
+    if !takes(code_of(line.word(2)), line.count - 3) {
+        return Err(Complaint::MissingOrExtraWord);
     }
-    Call::Writes(Write::Cell { place })
+    Ok(Call::Writes(Write::Cell { place }))
 }
 
 // Whether an address is a cell's.
+#[tactic(auto, unfolding(crate::specs::Writes::is_cell, laws::specs::Tests::both))]
 fn is_cell(address: u32) -> bool
     ensures { result ≡ is_cell address }
 {
-    if address < FIRST {
-        return false;
-    }
-    address <= LAST
+    (FIRST..=LAST).contains(&address)
 }
 
 // The call of a raw write. The numbers of a cell are put into the numbers.
-pub fn parse(line: &[u8], count: usize, numbers: &mut [u64; 7]) -> Call
-    requires { count ≡ length (words_of line.now) }
-    ensures value { result ≡ write_of (words_of line.now) }
+pub fn parse(line: Line, numbers: &mut [u64; 7]) -> Result<Call, Complaint>
+    ensures value { result ≡ write_of (words_of line.entry.text.now) }
     ensures numbers { numbers.new ≡
-        numbers_of (words_of line.now) numbers.old }
+        numbers_of (words_of line.entry.text.now) numbers.old }
 {
-    let name = words::part(line, 1, b' ');
+    let name = line.word(1);
     if check::same(name, b"out") {
-        return of_output(line, count);
+        return of_output(line);
     }
     let at = address(name);
     if is_cell(at) {
-        return of_cell(line, count, (at - FIRST) as usize, numbers);
+        return of_cell(line, (at - FIRST) as usize, numbers);
     }
     let place = names::place_of(name);
     if names::COUNT <= place {
-        return Call::Malformed(Complaint::UnknownName);
+        return Err(Complaint::UnknownName);
     }
-    of_field(line, count, place)
+    of_field(line, place)
 }

@@ -1,6 +1,6 @@
 -- What is seen of a call, as bytes: docs/PROTOCOL.md, the fourth column.
 -- Assumes nothing.
-use Rattle.std.specs.Prelude.{ℕ, ◌+◌, ◌*◌, Bool, false, List, [], ◌∷◌, ◌++◌, length}
+use Rattle.std.specs.Prelude.{ℕ, ◌+◌, ◌*◌, Bool, false, List, [], ◌∷◌, ◌++◌, length, Option, Some, None}
 use Rattle.laws.specs.Tests.{choose}
 use Rattle.machine.specs.Calls.{Call, Ending, Shown, Seen}
 use Rattle.machine.specs.Calls.Call.{SendString, SetInputs, Millisecond, Step, AtSpeed, Halted, Wait}
@@ -11,6 +11,8 @@ use Rattle.machine.specs.declared.answers.BoardOrder.TheVariants.{Stand, Slow, R
 use Rattle.machine.specs.declared.answers.End.{End}
 use Rattle.machine.specs.declared.answers.End.TheVariants.{Idle, Moving, Spent}
 use Rattle.units.specs.Bits.{bits_of as step_bits}
+use Rattle.operations.specs.Results.{ending_as}
+use Rattle.operations.specs.declared.results.Ending.{Ending as EndingBy}
 use Rattle.encoding.specs.Numbers.{number_bytes}
 use Rattle.seen.specs.declared.orders.Parts.{Parts}
 
@@ -23,7 +25,7 @@ bits_of (b ∷ bs) = choose b 1 0 + 2 * bits_of bs
 unfoldable pub signal_bits : BoardSignals → Bool → ℕ
 signal_bits s backward = choose s.powered 1 0 + choose s.fc 2 0 + choose backward 4 0
 
-abbrev standing : ℕ → BoardSignals → Parts
+abbrev pub standing : ℕ → BoardSignals → Parts
 standing kind s =
     record { kind = kind; current = s.current; signals = signal_bits s false; ramp = 0; hertz = 0; remaining = 0 }
 
@@ -50,6 +52,11 @@ end_number Spent = 3
 unfoldable pub ending_bytes : Ending → List ℕ
 ending_bytes NoWait = 0 ∷ number_bytes 0
 ending_bytes (Ended end given shown) = end_number end ∷ number_bytes given
+
+-- how a wait ended, if it was not refused
+unfoldable pub ended_as : Option EndingBy → Ending
+ended_as (Some e) = ending_as e []
+ended_as None = NoWait
 
 -- of each call its refusal; of a string also the answer with its length, of a wait its end
 unfoldable pub call_bytes : Call → Seen → List ℕ

@@ -1,8 +1,7 @@
 // The end of a wait, into a buffer.
-ghost use Rattle.std.specs.Prelude.{◌≡◌, [], ◌+◌, ◌≤◌, length};
+ghost use Rattle.std.specs.Prelude.{◌≡◌, ◌+◌, ◌≤◌, length};
 ghost use Rattle.laws.specs.Writing.{Put};
-ghost use Rattle.operations.specs.Results.{ending_as};
-ghost use Rattle.seen.specs.Bytes.{end_number, ending_bytes};
+ghost use Rattle.seen.specs.Bytes.{end_number, ended_as, ending_bytes};
 
 use crate::numbers::{put_byte, put_number};
 use machine::answers::End;
@@ -21,18 +20,18 @@ fn end_number(end: End) -> u8
 }
 
 // The end of a wait and how many milliseconds it gave; zeros of one that was refused.
-pub fn put_ending(buffer: &mut [u8], at: usize, ending: Ending) -> usize
+pub fn put_ending(buffer: &mut [u8], at: usize, ending: Option<Ending>) -> usize
     requires { at + 5 ≤ length buffer.old }
-    ensures { Put buffer.old buffer.new (ending_bytes (ending_as ending [])) at result }
+    ensures { Put buffer.old buffer.new (ending_bytes (ended_as ending)) at result }
 {
     match ending {
-        Ending::NoWait => {
+        Some(ending) => {
+            let begun = put_byte(buffer, at, end_number(ending.end));
+            put_number(buffer, begun, ending.given.0)
+        }
+        None => {
             let begun = put_byte(buffer, at, 0);
             put_number(buffer, begun, 0)
-        }
-        Ending::Ended { end, given } => {
-            let begun = put_byte(buffer, at, end_number(end));
-            put_number(buffer, begun, given.0)
         }
     }
 }

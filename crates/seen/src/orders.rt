@@ -1,7 +1,7 @@
 // The order to the board and the outputs, into a buffer.
 ghost use Rattle.std.specs.Prelude.{◌≡◌, ◌+◌, ◌≤◌, length};
 ghost use Rattle.laws.specs.Writing.{Put};
-ghost use Rattle.seen.specs.Bytes.{bits_of, signal_bits, parts_of, parts_bytes, shown_bytes};
+ghost use Rattle.seen.specs.Bytes.{bits_of, signal_bits, standing, parts_of, parts_bytes, shown_bytes};
 
 use crate::numbers::{put_byte, put_number};
 use machine::answers::{BoardOrder, BoardSignals};
@@ -28,27 +28,27 @@ fn signal_bits(signals: BoardSignals, backward: bool) -> u8
     powered + fc + back
 }
 
+// An order in which nothing runs.
+fn standing(kind: u8, signals: BoardSignals) -> Parts
+    ensures { result ≡ standing kind signals }
+{
+    Parts {
+        kind,
+        current: signals.current,
+        signals: signal_bits(signals, false),
+        ramp: 0,
+        hertz: 0,
+        remaining: 0,
+    }
+}
+
 #[tactic(auto, unfolding(crate::specs::Bytes::parts_of))]
 fn parts_of(order: BoardOrder) -> Parts
     ensures { result ≡ parts_of order }
 {
     match order {
-        BoardOrder::Stand(signals) => Parts {
-            kind: 0,
-            current: signals.current,
-            signals: signal_bits(signals, false),
-            ramp: 0,
-            hertz: 0,
-            remaining: 0,
-        },
-        BoardOrder::Slow(signals) => Parts {
-            kind: 1,
-            current: signals.current,
-            signals: signal_bits(signals, false),
-            ramp: 0,
-            hertz: 0,
-            remaining: 0,
-        },
+        BoardOrder::Stand(signals) => standing(0, signals),
+        BoardOrder::Slow(signals) => standing(1, signals),
         BoardOrder::Run {
             signals,
             backward,
@@ -71,9 +71,7 @@ fn output_bits(outputs: [bool; 14]) -> u32
     ensures { result ≡ bits_of outputs }
 {
     let mut bits: u32 = 0;
-    let mut i: usize = 14;
-    while 0 < i {
-        i -= 1;
+    for i in (0..14).rev() {
         bits = 2 * bits + if outputs[i] { 1 } else { 0 };
     }
     bits

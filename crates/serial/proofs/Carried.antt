@@ -2,7 +2,6 @@
 -- Assumes nothing.
 use Prim.Native.Nat.{◌≤◌}
 use mathlib.Core.Path.{◌≡◌, ap, ◌∙◌}
-use mathlib.Core.List.{List}
 use lib.ListN.{length}
 use Rattle.instruction.specs.declared.Cell.{Cell}
 use Rattle.machine.specs.Acting.{acted_at, cells_after, named_cell, machine_after}

@@ -18,20 +18,18 @@ use units::DriveAddress;
 const LONGEST: usize = 64;
 
 // A string ends in byte 13.
+#[tactic(auto, unfolding(machine::specs::Strings::ended, laws::specs::Tests::both))]
 pub fn ended(b: &[u8]) -> bool
     ensures { result ≡ ended_of b.now }
 {
-    let n = b.len();
-    if n == 0 {
-        return false;
-    }
-    b[n - 1] == CARRIAGE_RETURN
+    matches!(b, [.., CARRIAGE_RETURN])
 }
 
+#[tactic(auto, unfolding(machine::specs::Strings::is_digit, laws::specs::Tests::both))]
 fn is_digit(b: u8) -> bool
     ensures { result ≡ is_digit b }
 {
-    (b'0' <= b) & (b <= b'9')
+    b.is_ascii_digit()
 }
 
 // The value of a digit; below the digits 0.
@@ -39,20 +37,14 @@ fn digit_value(b: u8) -> u16
     ensures value { result ≡ b - 48 }
     ensures small { result ≤ 207 }
 {
-    if b < b'0' {
-        return 0;
-    }
-    (b - b'0') as u16
+    u16::from(b.saturating_sub(b'0'))
 }
 
 // The byte at a place, 0 past the end.
 fn byte_at(s: &[u8], i: usize) -> u8
     ensures { result ≡ get_or s.now i 0 }
 {
-    if i < s.len() {
-        return s[i];
-    }
-    0
+    s.get(i).copied().unwrap_or(0)
 }
 
 // The first four bytes of a string, which stands here without its byte 13.
@@ -66,7 +58,7 @@ pub fn header_in(s: &[u8]) -> Header
     Header {
         digits: is_digit(a) & is_digit(b),
         address: StringAddress(digit_value(a) * 10 + digit_value(b)),
-        code: (c as u16) * 256 + (d as u16),
+        code: u16::from(c) * 256 + u16::from(d),
     }
 }
 
@@ -77,15 +69,14 @@ pub fn to_every(header: Header) -> bool
     header.address.0 == StringAddress::EVERY
 }
 
+#[tactic(auto, unfolding(machine::specs::Strings::addressed, laws::specs::Tests::both, laws::specs::Tests::either))]
 fn addressed(own: DriveAddress, header: Header) -> bool
     ensures { result ≡ addressed_of own header }
 {
-    if !header.digits {
-        return false;
-    }
-    (header.address.0 == own.0 as u16) | to_every(header)
+    header.digits && (header.address.0 == u16::from(own.0) || to_every(header))
 }
 
+#[tactic(auto, unfolding(machine::specs::Strings::is_stop, machine::specs::Commands::is_code, fields::specs::Names::pair_of, laws::specs::Text::bytes, laws::specs::Tests::either))]
 fn is_stop(code: u16) -> bool
     ensures { result ≡ is_stop code }
 {
@@ -93,37 +84,27 @@ fn is_stop(code: u16) -> bool
 }
 
 // A busy drive hears only the stops.
+#[tactic(auto, unfolding(machine::specs::Strings::free, laws::specs::Tests::either))]
 fn free(state: State, header: Header) -> bool
     ensures { result ≡ free_of state header }
 {
-    if idle(state) {
-        return true;
-    }
-    is_stop(header.code)
+    idle(state) || is_stop(header.code)
 }
 
 // To every drive go only WS, EE and ES.
+#[tactic(auto, unfolding(machine::specs::Strings::permitted, machine::specs::Commands::is_code, fields::specs::Names::pair_of, laws::specs::Text::bytes, laws::specs::Tests::either))]
 fn permitted(header: Header) -> bool
     ensures { result ≡ permitted_of header }
 {
-    if !to_every(header) {
-        return true;
-    }
-    (header.code == codes::WS) | is_stop(header.code)
+    !to_every(header) || header.code == codes::WS || is_stop(header.code)
 }
 
 // Whether the drive hears a string of this header.
+#[tactic(auto, unfolding(machine::specs::Strings::admitted, laws::specs::Tests::both))]
 pub fn admitted(header: Header, state: State) -> bool
     ensures { result ≡ admitted_of header state }
 {
-    let own = state.presets.address;
-    if !addressed(own, header) {
-        return false;
-    }
-    if !free(state, header) {
-        return false;
-    }
-    permitted(header)
+    addressed(state.presets.address, header) && free(state, header) && permitted(header)
 }
 
 // What a string of this code asks for: with its 13, one over 64 bytes is wrong.
@@ -142,10 +123,7 @@ pub fn judged(length: usize, code: u16, s: &[u8]) -> Command
 pub fn allowed(command: Command, state: State) -> Command
     ensures { result ≡ allowed_of command state }
 {
-    if !state.inputs[State::EE] {
-        return command;
-    }
-    if let Command::Start { .. } = command {
+    if state.inputs[State::EE] && matches!(command, Command::Start { .. }) {
         return Command::Wrong;
     }
     command

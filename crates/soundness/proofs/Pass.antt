@@ -47,9 +47,9 @@ unfolding every
 pass-end {xs} {i} h p = let l : length xs ≤ i = omega (arith, p.size) in sym (p.left ∙ rw (drop_of_length-le xs l) (both_end _))
 
 -- every place is one of the 131
-pub place-within : (a : CellAddress) {k : ℕ} → k ≡ place_of a → k < 131
+pub place_within : (a : CellAddress) {k : ℕ} → k ≡ place_of a → k < 131
 unfolding place_of is_cell
-place-within a e =
+place_within a e =
     rw e (choose-by (λ (n : ℕ). n < 131) (is_cell a) (λ t. omega (arith, leb-true a.0 230 (both_right _ _ t))) (λ t. lit< tt))
 
 -- the cell at an address's place is the one that it names

@@ -19,30 +19,24 @@ mod suspended;
 
 // The place in the memory of an address that a record holds. One that is no cell's is refused by
 // the state's own tests, whatever stands there, and has the first place.
+#[tactic(auto, unfolding(crate::specs::Places::place_of, laws::specs::Tests::choose))]
 fn place(address: CellAddress) -> usize
     ensures { result ≡ place_of address }
 {
-    if is_cell(address) {
-        return address.place();
-    }
-    0
+    if is_cell(address) { address.place() } else { 0 }
 }
 
 // Whether every cell is sound, and the state beside them.
+#[tactic(auto, using(crate::proofs::Pass::place_within))]
 pub fn sound(machine: Machine) -> bool
     ensures { result ≡ sound_of machine }
 {
     let mut ok = true;
-    let mut i: usize = 0;
-    while i < 131 {
-        let cell = machine.cells[i];
-        ok = ok & cell.sound();
-        i += 1;
+    for cell in &machine.cells {
+        ok &= cell.sound();
     }
     let state = machine.state;
-    let held_at = place(state.suspended.cell);
-    let present_at = place(state.running.cell);
-    let held = machine.cells[held_at];
-    let present = machine.cells[present_at];
+    let held = machine.cells[place(state.suspended.cell)];
+    let present = machine.cells[place(state.running.cell)];
     ok & state_sound(state, held, present)
 }

@@ -7,55 +7,45 @@ use machine::Remaining;
 use units::{Milliseconds, Steps};
 
 // 01: "a rest is within 33,554,428 either way".
+#[tactic(auto, unfolding(machine::specs::Soundness::steps_remaining, laws::specs::Tests::both))]
 pub fn steps_remaining(n: Steps) -> bool
     ensures { result ≡ steps_remaining n }
 {
-    (-Steps::REMAINING_LIMIT <= n.0) & (n.0 <= Steps::REMAINING_LIMIT) & !n.is_zero()
+    (-Steps::REMAINING_LIMIT..=Steps::REMAINING_LIMIT).contains(&n.0) & !n.is_zero()
 }
 
+#[tactic(auto, unfolding(machine::specs::Soundness::time_remaining, laws::specs::Tests::both))]
 pub fn time_remaining(n: Milliseconds) -> bool
     ensures { result ≡ time_remaining n }
 {
-    (1 <= n.0) & (n.0 <= Milliseconds::REMAINING_LIMIT)
+    (1..=Milliseconds::REMAINING_LIMIT).contains(&n.0)
 }
 
+#[tactic(auto, unfolding(machine::specs::Soundness::is_nothing))]
 pub fn is_nothing(remaining: Remaining) -> bool
     ensures { result ≡ is_nothing remaining }
 {
-    match remaining {
-        Remaining::Nothing => true,
-        Remaining::Counted(_) => false,
-        Remaining::Timed(_) => false,
-    }
+    matches!(remaining, Remaining::Nothing)
 }
 
+#[tactic(auto, unfolding(machine::specs::Soundness::is_steps))]
 pub fn is_steps(remaining: Remaining) -> bool
     ensures { result ≡ is_steps remaining }
 {
-    match remaining {
-        Remaining::Nothing => false,
-        Remaining::Counted(n) => steps_remaining(n),
-        Remaining::Timed(_) => false,
-    }
+    matches!(remaining, Remaining::Counted(n) if steps_remaining(n))
 }
 
+#[tactic(auto, unfolding(machine::specs::Soundness::is_time))]
 pub fn is_time(remaining: Remaining) -> bool
     ensures { result ≡ is_time remaining }
 {
-    match remaining {
-        Remaining::Nothing => false,
-        Remaining::Counted(_) => false,
-        Remaining::Timed(n) => time_remaining(n),
-    }
+    matches!(remaining, Remaining::Timed(n) if time_remaining(n))
 }
 
 // Steps along a direction.
+#[tactic(auto, unfolding(machine::specs::Soundness::is_steps_along, laws::specs::Tests::both, laws::specs::Tests::same))]
 pub fn is_steps_along(backward: bool, remaining: Remaining) -> bool
     ensures { result ≡ is_steps_along backward remaining }
 {
-    match remaining {
-        Remaining::Nothing => false,
-        Remaining::Counted(n) => steps_remaining(n) & (n.is_negative() == backward),
-        Remaining::Timed(_) => false,
-    }
+    matches!(remaining, Remaining::Counted(n) if steps_remaining(n) & (n.is_negative() == backward))
 }

@@ -1,10 +1,8 @@
 // The tests of a program under way: its phase, what remains in it, and the at-speed mark.
-ghost use Rattle.std.specs.Prelude.{◌≡◌, Bool, List};
+ghost use Rattle.std.specs.Prelude.{◌≡◌, List};
 ghost use Rattle.instruction.specs.declared.Cell.{Cell};
 ghost use Rattle.machine.specs.Soundness.{is_waiting, emergency_remaining, resting_sound};
 ghost use Rattle.machine.specs.Soundness.{busy_sound, running_sound};
-ghost use Rattle.machine.specs.declared.Phase.TheVariants.{Run, Braking, Slowing, BackOff};
-ghost use Rattle.machine.specs.declared.Phase.TheVariants.{Delay, EmergencySlowing};
 ghost use Rattle.soundness.specs.Phases.{phase_sound};
 ghost use Rattle.soundness.specs.Places.{Holds};
 
@@ -18,152 +16,80 @@ use machine::{Phase, Remaining, Running};
 fn is_waiting(phase: Phase) -> bool
     ensures { result ≡ is_waiting phase }
 {
-    match phase {
-        Phase::Waiting => true,
-        Phase::Delay => false,
-        Phase::Run => false,
-        Phase::Braking => false,
-        Phase::Slowing => false,
-        Phase::EmergencySlowing => false,
-        Phase::BackOff => false,
-    }
+    matches!(phase, Phase::Waiting)
 }
 
 // Idle, all five are zero.
+#[tactic(auto, unfolding(machine::specs::Soundness::resting_sound, laws::specs::Tests::both))]
 fn resting_sound(running: Running) -> bool
     ensures { result ≡ resting_sound running }
 {
-    let phase = running.phase;
-    let remaining = running.remaining;
-    is_waiting(phase) & is_nothing(remaining) & (running.loops == 0) & !running.at_speed
-}
-
-fn delay_sound(instruction: Instruction, remaining: Remaining, at_speed: bool) -> bool
-    ensures { result ≡ phase_sound Delay instruction remaining at_speed }
-{
-    is_delay(instruction) & is_time(remaining) & !at_speed
-}
-
-// Only an indexed run counts its steps, and only a run with a ramp comes to speed.
-fn run_sound(instruction: Instruction, remaining: Remaining, at_speed: bool) -> bool
-    ensures { result ≡ phase_sound Run instruction remaining at_speed }
-{
-    let profile = instruction.profile();
-    let motion = profile.motion;
-    let paced = (profile.ramp != 0) | !at_speed;
-    match motion {
-        Motion::NoRun => false,
-        Motion::IndexedRun => is_steps(remaining) & paced,
-        Motion::FreeRun => is_nothing(remaining) & paced,
-        Motion::SearchRun => is_nothing(remaining) & paced,
-        Motion::DelayedStopRun => is_nothing(remaining) & paced,
-    }
-}
-
-// A 05 after its stop has steps to go along its direction.
-fn braking_sound(instruction: Instruction, remaining: Remaining, at_speed: bool) -> bool
-    ensures { result ≡ phase_sound Braking instruction remaining at_speed }
-{
-    let profile = instruction.profile();
-    let motion = profile.motion;
-    match motion {
-        Motion::NoRun => false,
-        Motion::IndexedRun => false,
-        Motion::FreeRun => false,
-        Motion::SearchRun => false,
-        Motion::DelayedStopRun => is_steps_along(profile.backward, remaining) & at_speed,
-    }
-}
-
-// A free run with a ramp slows, and a zero search; the mark may be either.
-fn slowing_sound(instruction: Instruction, remaining: Remaining) -> bool
-    ensures { (at_speed : Bool) → result ≡ phase_sound Slowing instruction remaining at_speed }
-{
-    let profile = instruction.profile();
-    let motion = profile.motion;
-    match motion {
-        Motion::NoRun => false,
-        Motion::IndexedRun => false,
-        Motion::FreeRun => (profile.ramp != 0) & is_nothing(remaining),
-        Motion::SearchRun => is_nothing(remaining),
-        Motion::DelayedStopRun => false,
-    }
+    is_waiting(running.phase)
+        & is_nothing(running.remaining)
+        & (running.loops == 0)
+        & !running.at_speed
 }
 
 // What remains in an emergency slowing: the steps of an indexed run, those of a 05 if it brakes.
+#[tactic(auto, unfolding(machine::specs::Soundness::emergency_remaining, laws::specs::Tests::either))]
 fn emergency_remaining(profile: Profile, remaining: Remaining) -> bool
     ensures { result ≡ emergency_remaining profile.motion profile remaining }
 {
-    let motion = profile.motion;
-    match motion {
-        Motion::NoRun => is_nothing(remaining),
+    match profile.motion {
+        Motion::NoRun | Motion::FreeRun | Motion::SearchRun => is_nothing(remaining),
         Motion::IndexedRun => is_steps(remaining),
-        Motion::FreeRun => is_nothing(remaining),
-        Motion::SearchRun => is_nothing(remaining),
         Motion::DelayedStopRun => {
             is_nothing(remaining) | is_steps_along(profile.backward, remaining)
         }
     }
 }
 
-// Only a run with a ramp slows for an emergency stop; the mark may be either.
-fn emergency_sound(instruction: Instruction, remaining: Remaining) -> bool
-    ensures { (at_speed : Bool) →
-        result ≡ phase_sound EmergencySlowing instruction remaining at_speed }
-{
-    let profile = instruction.profile();
-    (profile.ramp != 0) & emergency_remaining(profile, remaining)
-}
-
-// Only a zero search backs off.
-fn back_off_sound(instruction: Instruction, remaining: Remaining, at_speed: bool) -> bool
-    ensures { result ≡ phase_sound BackOff instruction remaining at_speed }
-{
-    let profile = instruction.profile();
-    let motion = profile.motion;
-    match motion {
-        Motion::NoRun => false,
-        Motion::IndexedRun => false,
-        Motion::FreeRun => false,
-        Motion::SearchRun => is_nothing(remaining) & !at_speed,
-        Motion::DelayedStopRun => false,
-    }
-}
-
-// Whether the phase is one of the cell's, with what remains in it and the mark.
+// Whether the phase is one of the cell's, with what remains in it and the mark: only an indexed run
+// counts its steps, a 05 has steps to go along its direction after its stop, only a zero search
+// backs off, and only a run with a ramp comes to speed and slows. The mark may be either in both
+// slowings.
+#[tactic(auto, unfolding(crate::specs::Phases::phase_sound, machine::specs::Soundness::has_phase, machine::specs::Soundness::busy_remaining, machine::specs::Soundness::at_speed_sound, machine::specs::Soundness::has_ramp, machine::specs::Soundness::is_indexed, machine::specs::Soundness::run_phase, machine::specs::Soundness::braking_phase, machine::specs::Soundness::slowing_phase, machine::specs::Soundness::back_phase, laws::specs::Tests::both, laws::specs::Tests::either, laws::specs::Tests::choose))]
 fn phase_sound(running: Running, instruction: Instruction) -> bool
     ensures { result ≡
         phase_sound running.phase instruction running.remaining running.at_speed }
 {
-    let phase = running.phase;
     let remaining = running.remaining;
     let at_speed = running.at_speed;
-    match phase {
-        Phase::Waiting => is_nothing(remaining) & !at_speed,
-        Phase::Delay => delay_sound(instruction, remaining, at_speed),
-        Phase::Run => run_sound(instruction, remaining, at_speed),
-        Phase::Braking => braking_sound(instruction, remaining, at_speed),
-        Phase::Slowing => slowing_sound(instruction, remaining),
-        Phase::EmergencySlowing => emergency_sound(instruction, remaining),
-        Phase::BackOff => back_off_sound(instruction, remaining, at_speed),
+    let profile = instruction.profile();
+    let ramp = profile.ramp != 0;
+    match (running.phase, profile.motion) {
+        (Phase::Waiting, _) => is_nothing(remaining) & !at_speed,
+        (Phase::Delay, _) => is_delay(instruction) & is_time(remaining) & !at_speed,
+        (Phase::Run, Motion::IndexedRun) => is_steps(remaining) & (ramp | !at_speed),
+        (Phase::Run, Motion::FreeRun | Motion::SearchRun | Motion::DelayedStopRun) => {
+            is_nothing(remaining) & (ramp | !at_speed)
+        }
+        (Phase::Braking, Motion::DelayedStopRun) => {
+            is_steps_along(profile.backward, remaining) & at_speed
+        }
+        (Phase::Slowing, Motion::FreeRun) => ramp & is_nothing(remaining),
+        (Phase::Slowing, Motion::SearchRun) => is_nothing(remaining),
+        (Phase::EmergencySlowing, _) => ramp & emergency_remaining(profile, remaining),
+        (Phase::BackOff, Motion::SearchRun) => is_nothing(remaining) & !at_speed,
+        _ => false,
     }
 }
 
 // The present cell is one, and the phase is sound. A loop count of 16 bits is never above 65,535.
+#[tactic(auto, using(crate::proofs::Comparisons::loops_pass), unfolding(machine::specs::Soundness::busy_sound, crate::specs::Phases::phase_sound, laws::specs::Tests::both))]
 fn busy_sound(running: Running, instruction: Instruction) -> bool
     ensures { result ≡ busy_sound running instruction }
 {
-    let cell = running.cell;
-    is_cell(cell) & phase_sound(running, instruction)
+    is_cell(running.cell) & phase_sound(running, instruction)
 }
 
 pub fn running_sound(running: Running, instruction: Instruction) -> bool
     ensures { (cells : List Cell) → Holds cells running.cell instruction →
         result ≡ running_sound cells running }
 {
-    let cell = running.cell;
-    if cell.0 == 0 {
-        return resting_sound(running);
+    if running.cell.0 == 0 {
+        resting_sound(running)
+    } else {
+        busy_sound(running, instruction)
     }
-    busy_sound(running, instruction)
 }

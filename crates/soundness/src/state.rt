@@ -17,13 +17,9 @@ pub fn state_sound(state: State, held: Cell, present: Cell) -> bool
         Holds cells state.running.cell present.instruction →
         result ≡ state_sound cells state }
 {
-    let presets = state.presets;
-    let cam = state.cam;
-    let fault = state.fault;
-    let suspended = state.suspended;
-    let running = state.running;
-    let own = presets_sound(presets) & cam_sound(cam) & fault_sound(fault);
-    let interrupted = held.instruction;
-    let current = present.instruction;
-    own & suspended_sound(suspended, interrupted) & running_sound(running, current)
+    presets_sound(state.presets)
+        & cam_sound(state.cam)
+        & fault_sound(state.fault)
+        & suspended_sound(state.suspended, held.instruction)
+        & running_sound(state.running, present.instruction)
 }

@@ -12,27 +12,22 @@ use instruction::Instruction;
 use instruction::run::Motion;
 use machine::{Remaining, Suspended};
 
+#[tactic(auto, unfolding(machine::specs::Soundness::is_indexed))]
 fn is_indexed(instruction: Instruction) -> bool
     ensures { result ≡ is_indexed (profile_of instruction).motion }
 {
-    let profile = instruction.profile();
-    let motion = profile.motion;
-    match motion {
-        Motion::NoRun => false,
-        Motion::IndexedRun => true,
-        Motion::FreeRun => false,
-        Motion::SearchRun => false,
-        Motion::DelayedStopRun => false,
-    }
+    matches!(instruction.profile().motion, Motion::IndexedRun)
 }
 
+#[tactic(auto, using(machine::proofs::Variants::not_delay), unfolding(machine::specs::Soundness::is_delay, instruction::specs::Codes::code_of))]
 pub fn is_delay(instruction: Instruction) -> bool
     ensures { result ≡ is_delay instruction }
 {
-    instruction.code() == 65
+    matches!(instruction, Instruction::TimeDelay { .. })
 }
 
 // What remains in the record: steps of an indexed run, milliseconds of a 65.
+#[tactic(auto, unfolding(machine::specs::Soundness::suspended_remaining, laws::specs::Tests::both))]
 fn suspended_remaining(remaining: Remaining, instruction: Instruction) -> bool
     ensures { result ≡ suspended_remaining remaining instruction }
 {
@@ -48,10 +43,9 @@ pub fn suspended_sound(suspended: Suspended, instruction: Instruction) -> bool
     ensures { (cells : List Cell) → Holds cells suspended.cell instruction →
         result ≡ suspended_sound cells suspended }
 {
-    let cell = suspended.cell;
-    let remaining = suspended.remaining;
-    if cell.0 == 0 {
-        return is_nothing(remaining) & (suspended.loops == 0);
+    if suspended.cell.0 == 0 {
+        is_nothing(suspended.remaining) & (suspended.loops == 0)
+    } else {
+        is_cell(suspended.cell) & suspended_remaining(suspended.remaining, instruction)
     }
-    is_cell(cell) & suspended_remaining(remaining, instruction)
 }

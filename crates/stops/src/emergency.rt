@@ -1,28 +1,21 @@
 // The emergency stop.
 ghost use Rattle.std.specs.Prelude.{◌≡◌};
 ghost use Rattle.machine.specs.Stopping.{interrupted as interrupted_of, abandoned as abandoned_of};
-ghost use Rattle.machine.specs.Stopping.{emergency_slowed, emergency_in, emergency_stop_at};
-ghost use Rattle.machine.specs.declared.Phase.TheVariants.{Waiting, Run};
+ghost use Rattle.machine.specs.Stopping.{emergency_slowed, emergency_stop_at};
 
-use instruction::Cell;
-use machine::{Phase, Remaining, State, Suspended};
+use instruction::{Cell, Instruction};
+use machine::{Phase, State, Suspended};
 use progress::{idle, in_phase, stopped};
-use units::CellAddress;
 
 // Ends the program, which can be resumed.
 pub fn interrupted(mut state: State) -> State
     ensures { result ≡ interrupted_of state }
 {
-    let running = state.running;
-    let cell = running.cell;
-    let remaining = running.remaining;
-    let loops = running.loops;
-    let suspended = Suspended {
-        cell,
-        remaining,
-        loops,
+    state.suspended = Suspended {
+        cell: state.running.cell,
+        remaining: state.running.remaining,
+        loops: state.running.loops,
     };
-    state.suspended = suspended;
     stopped(state)
 }
 
@@ -30,12 +23,7 @@ pub fn interrupted(mut state: State) -> State
 pub fn abandoned(mut state: State) -> State
     ensures { result ≡ abandoned_of state }
 {
-    let suspended = Suspended {
-        cell: CellAddress(0),
-        remaining: Remaining::Nothing,
-        loops: 0,
-    };
-    state.suspended = suspended;
+    state.suspended = Suspended::EMPTY;
     stopped(state)
 }
 
@@ -43,61 +31,24 @@ pub fn abandoned(mut state: State) -> State
 pub fn emergency_slowed(state: State) -> State
     ensures { result ≡ emergency_slowed state }
 {
-    let running = state.running;
-    let remaining = running.remaining;
-    in_phase(state, Phase::EmergencySlowing, remaining)
+    in_phase(state, Phase::EmergencySlowing, state.running.remaining)
 }
 
-// A cell not yet taken; a 69 leaves the record as it is.
-#[tactic(auto, unfolding(laws::specs::Tests::choose, machine::specs::Stopping::emergency_in, machine::specs::Taking::is_recovery))]
-fn waiting_interrupted(state: State, cell: Cell) -> State
-    ensures { result ≡ emergency_in Waiting state cell }
-{
-    let instruction = cell.instruction;
-    let code = instruction.code();
-    if code == 69 {
-        return stopped(state);
-    }
-    interrupted(state)
-}
-
-// A run in its first phase; with a ramp it first slows until halted.
-#[tactic(auto, unfolding(laws::specs::Tests::choose, machine::specs::Stopping::emergency_in))]
-fn run_interrupted(state: State, cell: Cell) -> State
-    ensures { result ≡ emergency_in Run state cell }
-{
-    let instruction = cell.instruction;
-    let profile = instruction.profile();
-    if profile.ramp == 0 {
-        return interrupted(state);
-    }
-    emergency_slowed(state)
-}
-
-#[tactic(auto, unfolding(machine::specs::Stopping::emergency_in))]
-fn busy_interrupted(phase: Phase, state: State, cell: Cell) -> State
-    ensures { result ≡ emergency_in phase state cell }
-{
-    match phase {
-        Phase::Waiting => waiting_interrupted(state, cell),
-        Phase::Delay => interrupted(state),
-        Phase::Run => run_interrupted(state, cell),
-        Phase::Braking => emergency_slowed(state),
-        Phase::Slowing => emergency_slowed(state),
-        Phase::EmergencySlowing => state,
-        Phase::BackOff => interrupted(state),
-    }
-}
-
-// The emergency stop: a busy program ends, at once or after slowing.
-#[tactic(auto, unfolding(laws::specs::Tests::choose, machine::specs::Stopping::emergency_stop_at))]
+// The emergency stop: a busy program ends, at once or after slowing. A 69 that is not yet taken
+// leaves the record as it is.
+#[tactic(auto, using(machine::proofs::Variants::not_recovery), unfolding(laws::specs::Tests::choose, machine::specs::Stopping::emergency_in, machine::specs::Stopping::emergency_stop_at, machine::specs::Taking::is_recovery, instruction::specs::Codes::code_of))]
 pub fn emergency_stop(state: State, cell: Cell) -> State
     ensures { result ≡ emergency_stop_at state cell }
 {
     if idle(state) {
         return state;
     }
-    let running = state.running;
-    let phase = running.phase;
-    busy_interrupted(phase, state, cell)
+    match state.running.phase {
+        Phase::Waiting if matches!(cell.instruction, Instruction::Recovery) => stopped(state),
+        // Only a run with a ramp has to slow.
+        Phase::Run if cell.instruction.profile().ramp != 0 => emergency_slowed(state),
+        Phase::Waiting | Phase::Delay | Phase::Run | Phase::BackOff => interrupted(state),
+        Phase::Braking | Phase::Slowing => emergency_slowed(state),
+        Phase::EmergencySlowing => state,
+    }
 }

@@ -1,5 +1,5 @@
 // What ends a run from outside: the free run stop, PX and the emergency stop. Each function takes
-// the state and what it needs of the present cell; none copies the memory.
+// the state and the present cell; none copies the memory.
 #![tactic(auto)]
 
 pub mod emergency;

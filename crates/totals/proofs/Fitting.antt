@@ -2,20 +2,19 @@
 -- Assumes nothing.
 use Prim.Native.Nat.{ℕ, ◌+◌, ◌^◌, ◌≤◌, ◌<◌}
 use native.Mathlib.Omega.{arith}
-use mathlib.Core.Path.{◌≡◌, refl, sym, subst}
+use mathlib.Core.Path.{◌≡◌, refl, subst}
 use mathlib.Core.Bool.{Bool, true, false}
 use mathlib.Core.List.{List}
 use lib.Dec.{lit≤, lit<}
-use lib.IntN.{ℤ, pos, nat_abs, ◌+ℤ◌}
-use lib.ListN.{get_or, length-set}
+use lib.IntN.{ℤ, nat_abs, ◌+ℤ◌}
+use lib.ListN.{length-set}
 use mir.Syntax.{w64}
 use mir.Val.{SFits, to_z, of_z}
 use mir.Facts.{to_z-of_z}
+use Rattle.std.specs.Prelude.{Option, Some}
 use Rattle.laws.specs.Tests.{choose}
 use Rattle.laws.specs.Tables.{every}
-use Rattle.laws.proofs.Tests.{choose-by, choose-false}
-use Rattle.fields.specs.Kinds.{valid}
-use Rattle.fields.specs.declared.kinds.Kind.TheVariants.{Next}
+use Rattle.laws.proofs.Tests.{choose-by}
 use Rattle.units.specs.Limits.{remaining_limit, delay_limit}
 use Rattle.units.specs.declared.CellAddress.{CellAddress}
 use Rattle.units.proofs.Integers.{nat_abs-add, sfits-nat_abs}
@@ -33,13 +32,12 @@ use Rattle.instruction.specs.declared.Instruction.TheVariants.{Null, IndexedRamp
 use Rattle.instruction.specs.declared.Instruction.TheVariants.{Indexed, IndexedFine, Free, FreeFine, ZeroSearch, DelayedStop}
 use Rattle.instruction.specs.declared.Instruction.TheVariants.{CamSetting, OutputSetting, CounterReset, OpeningLoop, ClosingLoop}
 use Rattle.instruction.specs.declared.Instruction.TheVariants.{ConditionalJump, TimeDelay, Recovery, CurrentSetting}
-use Rattle.instruction.specs.declared.adding.Added.{Added}
-use Rattle.instruction.specs.declared.adding.Added.TheVariants.{Counted, Other}
+use Rattle.instruction.specs.declared.adding.Sums.{Sums}
 use Rattle.machine.specs.Record.{cell_at}
 use Rattle.machine.proofs.Cells.{next-sound, run_sound, delay-cell}
 use Rattle.machine.proofs.Places.{place-sound}
-use Rattle.totals.specs.Walk.{row_of, rows_of, place_of, nothing}
-use Rattle.totals.specs.Table.{steps_in, delay_in, row_at, rows_in, sums_at, Fits, Fitting, steps_limit, Room}
+use Rattle.totals.specs.Walk.{Rows, row_of, rows_of, place_of, nothing, sum_of}
+use Rattle.totals.specs.Room.{steps_in, delay_in, Fits, Fitting, steps_limit, Room}
 
 -- ---- a sound cell's row
 
@@ -79,8 +77,8 @@ unfolding added_of
 row_fits c t =
     let k = is_one_of totalled_codes (code_of c.instruction) in
     record {
-      steps = choose-by (λ (x : Added). nat_abs (steps_in x) ≤ remaining_limit) k (λ _. net-small c t) (λ _. lit≤ tt);
-      delay = choose-by (λ (x : Added). delay_in x ≤ delay_limit) k (λ _. delay-small c.instruction c.next t) (λ _. lit≤ tt);
+      steps = choose-by (λ (x : Option Sums). nat_abs (steps_in x) ≤ remaining_limit) k (λ _. net-small c t) (λ _. lit≤ tt);
+      delay = choose-by (λ (x : Option Sums). delay_in x ≤ delay_limit) k (λ _. delay-small c.instruction c.next t) (λ _. lit≤ tt);
       next = next-sound c t;
     }
 
@@ -97,33 +95,29 @@ room-first = record { count = refl; steps = lit≤ tt; delay = lit≤ tt }
 pub steps-fit : (z : ℤ) → nat_abs z ≤ steps_limit → SFits w64 z
 steps-fit z h = sfits-nat_abs w64 z steps_limit h (lit< tt)
 
--- what holds where the walk goes on, at a place k whose cell is allowed and was not met before
-pub record Onward (z : List ℤ) (d n : List ℕ) (k : ℕ) (met : List Bool) (net : ℤ) (waits : ℕ) : Type 0 where
-  pub before : SFits w64 net
-  pub steps : SFits w64 (get_or z k (pos 0))
-  pub sum : SFits w64 (net +ℤ get_or z k (pos 0))
-  pub delay : waits + get_or d k 0 < 2 ^ 32
-  pub next : valid Next (get_or n k 0) ≡ true
-  pub room : Room (marked met k) (sums_at (net +ℤ get_or z k (pos 0)) (waits + get_or d k 0))
+-- what holds where the walk goes on, at a cell that is allowed and was not met before: met are the cells and s the sums before it, and it adds t
+pub record Onward (met : List Bool) (k : ℕ) (s t : Sums) : Type 0 where
+  pub before : SFits w64 s.steps.0
+  pub steps : SFits w64 t.steps.0
+  pub sum : SFits w64 (s.steps.0 +ℤ t.steps.0)
+  pub delay : s.delay.0 + t.delay.0 < 2 ^ 32
+  pub room : Room (marked met k) (sum_of s t)
   pub less : unmarked (marked met k) < unmarked met
 
 pub onward :
-    (o : List Bool) (z : List ℤ) (d n : List ℕ) (a : CellAddress) (met : List Bool) (net : ℤ) (waits : ℕ) {k : ℕ} → k ≡ place_of a →
-    k < 131 → Fitting (rows_in o z d n) → Room met (sums_at net waits) → is_marked met k ≡ false → get_or o k false ≡ false →
-    Onward z d n k met net waits
-onward o z d n a met net waits {k} e h f r m b =
-    let u = unmarked-less met k (omega (arith, h, r.count)) m in
-    let t = subst (λ (j : ℕ). Fits (row_at o z d n j)) (sym e) (f a) in
-    let c = choose-false (get_or o k false) Other (Counted (record { 0 = get_or z k (pos 0) }) (record { 0 = get_or d k 0 })) b in
-    let w = subst (λ (x : Added). nat_abs (steps_in x) ≤ remaining_limit) c t.steps in
-    let v = subst (λ (x : Added). delay_in x ≤ delay_limit) c t.delay in
-    let i = nat_abs-add net (get_or z k (pos 0)) in
+    (rows : Rows) (a : CellAddress) (met : List Bool) (s t : Sums) → place_of a < 131 → Fitting rows → Room met s →
+    is_marked met (place_of a) ≡ false → (rows a).added ≡ Some t → Onward met (place_of a) s t
+unfolding sum_of
+onward rows a met s t h f r m e =
+    let u = unmarked-less met (place_of a) (omega (arith, h, r.count)) m in
+    let w = subst (λ (x : Option Sums). nat_abs (steps_in x) ≤ remaining_limit) e (f a).steps in
+    let v = subst (λ (x : Option Sums). delay_in x ≤ delay_limit) e (f a).delay in
+    let i = nat_abs-add s.steps.0 t.steps.0 in
     record {
-      before = steps-fit net (omega (arith, r.steps));
+      before = steps-fit _ (omega (arith, r.steps));
       steps = steps-fit _ (omega (arith, w));
       sum = steps-fit _ (omega (arith, u, w, i, r.steps));
       delay = omega (arith, u, v, r.delay);
-      next = t.next;
       room =
           record { count = simp length-set r.count; steps = omega (arith, u, w, i, r.steps); delay = omega (arith, u, v, r.delay) };
       less = omega (arith, u);

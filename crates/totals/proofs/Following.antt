@@ -8,14 +8,14 @@ use mathlib.Core.Bool.{Bool, true, false}
 use mathlib.Core.List.{List}
 use lib.Dec.{eqb}
 use lib.IntN.{◌+ℤ◌, +ℤ_idl, +ℤ_idr, +ℤ_assoc}
+use Rattle.std.specs.Prelude.{Option, Some, None, Ok, Err}
 use Rattle.laws.specs.Tests.{choose}
 use Rattle.laws.specs.Tables.{every}
 use Rattle.units.specs.declared.CellAddress.{CellAddress}
 use Rattle.cellmap.specs.Marks.{no_marks, marked, unmarked}
 use Rattle.instruction.specs.Adding.{added_of}
 use Rattle.instruction.specs.declared.Cell.{Cell}
-use Rattle.instruction.specs.declared.adding.Added.{Added}
-use Rattle.instruction.specs.declared.adding.Added.TheVariants.{Counted, Other}
+use Rattle.instruction.specs.declared.adding.Sums.{Sums}
 use Rattle.machine.specs.Record.{cell_at, idle}
 use Rattle.machine.specs.Soundness.{is_cell, sound}
 use Rattle.machine.specs.Calls.{Call, after}
@@ -27,26 +27,24 @@ use Rattle.trace.proofs.Stages.{Left, cell_then, Way}
 use Rattle.trace.proofs.Stages.Way.{end, cell}
 use Rattle.trace.proofs.Stages as stages
 use Rattle.trace.proofs.Courses.{Standing, begun-stands, calls-came, calls-exactly, course-uninterrupted, course-ends}
-use Rattle.totals.specs.Walk.{Totalled, sums, nothing, sum_of, rows_of, place_of, Found, found_by, found, ended, walk, followed, totals_in, totals_of}
-use Rattle.totals.specs.Walk.Totalled.{Given, Refused}
+use Rattle.totals.specs.Walk.{Totalled, nothing, sum_of, rows_of, place_of, Found, found_by, found, ended, walk, followed, totals_in, totals_of}
 use Rattle.totals.specs.Walk.Found.{End, Again, Another, Going}
-use Rattle.totals.specs.declared.results.Sums.{Sums}
 use Rattle.totals.specs.Figures.{Made, Makes, Figures}
 
 -- ---- what is found
 
-same-given : (s t : Sums) → Given s ≡ Given t → s ≡ t
+same-given : (s t : Sums) → ◌≡◌ {A = Totalled} (Ok s) (Ok t) → s ≡ t
 same-given s t e = cc
 
-refused-given : {X : Type 0} (k : ℕ) (t : Sums) → Refused k ≡ Given t → X
+refused-given : {X : Type 0} (k : ℕ) (t : Sums) → Err k ≡ Ok t → X
 refused-given k t e = let z : ◌≡◌ {A = ℕ} 0 1 = cc in absurd (omega arith)
 
-end-choice : (b m : Bool) (x : Added) → choose b End (choose m Again (found_by x)) ≡ End → b ≡ true
+end-choice : (b m : Bool) (x : Option Sums) → choose b End (choose m Again (found_by x)) ≡ End → b ≡ true
 unfolding choose found_by
 end-choice true m x e = refl
 end-choice false true x e = cc
-end-choice false false (Counted n d) e = cc
-end-choice false false Other e = cc
+end-choice false false (Some t) e = cc
+end-choice false false None e = cc
 
 found-end : (cells : List Cell) (a : CellAddress) (met : List Bool) → found (rows_of cells) a met ≡ End → eqb a.0 0 ≡ true
 unfolding found
@@ -54,17 +52,17 @@ found-end cells a met e = end-choice _ _ _ e
 
 -- a cell that is passed stands at no 000, and adds what is found
 going-choice :
-    (b m : Bool) (x : Added) (t : Sums) → choose b End (choose m Again (found_by x)) ≡ Going t →
-    (b ≡ false) × (x ≡ Counted t.steps t.delay)
+    (b m : Bool) (x : Option Sums) (t : Sums) → choose b End (choose m Again (found_by x)) ≡ Going t →
+    (b ≡ false) × (x ≡ Some t)
 unfolding choose found_by
 going-choice true m x t e = let z : ◌≡◌ {A = ℕ} 0 1 = cc in absurd (omega arith)
 going-choice false true x t e = let z : ◌≡◌ {A = ℕ} 0 1 = cc in absurd (omega arith)
-going-choice false false (Counted n d) t e = let q : sums n d ≡ t = cc in (refl, λ i. Counted (q i).steps (q i).delay)
-going-choice false false Other t e = let z : ◌≡◌ {A = ℕ} 0 1 = cc in absurd (omega arith)
+going-choice false false (Some u) t e = let q : u ≡ t = cc in (refl, ap Some q)
+going-choice false false None t e = let z : ◌≡◌ {A = ℕ} 0 1 = cc in absurd (omega arith)
 
 found-going :
     (cells : List Cell) (a : CellAddress) (met : List Bool) (t : Sums) → found (rows_of cells) a met ≡ Going t →
-    (eqb a.0 0 ≡ false) × (added_of (cell_at cells a).instruction ≡ Counted t.steps t.delay)
+    (eqb a.0 0 ≡ false) × (added_of (cell_at cells a).instruction ≡ Some t)
 unfolding found
 found-going cells a met t e = going-choice _ _ _ t e
 
@@ -78,7 +76,7 @@ record Followed (cells : List Cell) (a : CellAddress) (s total : Sums) : Type 0 
   delay : s.delay.0 + left.delay ≡ total.delay.0
 
 walk-ended :
-    (cells : List Cell) (a : CellAddress) (met : List Bool) (s total : Sums) → found (rows_of cells) a met ≡ End → Given s ≡ Given total →
+    (cells : List Cell) (a : CellAddress) (met : List Bool) (s total : Sums) → found (rows_of cells) a met ≡ End → ◌≡◌ {A = Totalled} (Ok s) (Ok total) →
     Followed cells a s total
 walk-ended cells a met s total f e =
     let q = same-given s total e in
@@ -104,7 +102,7 @@ walk-passed cells a met s t total f w =
 
 walk-followed :
     (n : ℕ) (f : Found) (cells : List Cell) (a : CellAddress) (met : List Bool) (s total : Sums) → found (rows_of cells) a met ≡ f →
-    walk n f (rows_of cells) a met s ≡ Given total → Followed cells a s total
+    walk n f (rows_of cells) a met s ≡ Ok total → Followed cells a s total
 unfolding walk ended
 walk-followed zero End cells a met s total f e = walk-ended cells a met s total f e
 walk-followed zero Again cells a met s total f e = refused-given 12 total e
@@ -118,7 +116,7 @@ walk-followed (suc n) (Going t) cells a met s total f e =
     (walk-followed n (found (rows_of cells) (cell_at cells a).next (marked met (place_of a))) cells (cell_at cells a).next
     (marked met (place_of a)) (sum_of s t) total refl e)
 
-given_by : (b : Bool) (x : Totalled) (k : ℕ) (total : Sums) → choose b x (Refused k) ≡ Given total → (b ≡ true) × (x ≡ Given total)
+given_by : (b : Bool) (x : Totalled) (k : ℕ) (total : Sums) → choose b x (Err k) ≡ Ok total → (b ≡ true) × (x ≡ Ok total)
 unfolding choose
 given_by true x k total e = (refl, e)
 given_by false x k total e = refused-given k total e
@@ -131,7 +129,7 @@ record Totals (m : Machine) (a : CellAddress) (total : Sums) : Type 0 where
   steps : left.steps ≡ total.steps.0
   delay : left.delay ≡ total.delay.0
 
-totals-way : (m : Machine) (a : CellAddress) (total : Sums) → totals_of m a ≡ Given total → Totals m a total
+totals-way : (m : Machine) (a : CellAddress) (total : Sums) → totals_of m a ≡ Ok total → Totals m a total
 unfolding totals_of totals_in followed
 totals-way m a total e =
     let p = given_by (sound m) _ 2 total e in

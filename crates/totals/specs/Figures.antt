@@ -1,8 +1,9 @@
 -- 02, Slip 2, as one statement: "The steps are those that an uninterrupted run makes, if RS allows x4."
 -- Assumes nothing.
-use Rattle.std.specs.Prelude.{ℕ, ◌≤◌, ◌<◌, ◌≡◌, true, false, List, length}
+use Rattle.std.specs.Prelude.{ℕ, ◌≤◌, ◌<◌, ◌≡◌, true, false, List, length, Ok}
 use Rattle.laws.specs.Tables.{every}
 use Rattle.units.specs.declared.CellAddress.{CellAddress}
+use Rattle.instruction.specs.declared.adding.Sums.{Sums}
 use Rattle.machine.specs.Record.{idle, input_at, in_ee, is_absolute}
 use Rattle.machine.specs.Taking.{allows_x4}
 use Rattle.machine.specs.Calls.{Call, after, next}
@@ -12,8 +13,6 @@ use Rattle.machine.specs.Demand2.{address_at, starting}
 use Rattle.machine.specs.declared.Machine.{Machine}
 use Rattle.trace.specs.Course.{begun, uninterrupted, steps_over, delays_over, course}
 use Rattle.totals.specs.Walk.{totals_of}
-use Rattle.totals.specs.Walk.Totalled.{Given}
-use Rattle.totals.specs.declared.results.Sums.{Sums}
 
 -- a list of calls ends the program, and these are its steps, net, and the milliseconds of its delays
 pub record Made (zs : List Call) (m : Machine) (total : Sums) : Type 0 where
@@ -36,7 +35,7 @@ pub record Figures : Type 0 where
   -- the totals of a start cell are made by a program that is started there, in relative mode, if RS allows x4
   pub figures :
       (m : Machine) → Kept m → is_absolute m.state.presets ≡ false → allows_x4 m.state.presets.resolution ≡ true →
-      (a : CellAddress) (total : Sums) → totals_of m a ≡ Given total → Makes (begun m a) total
+      (a : CellAddress) (total : Sums) → totals_of m a ≡ Ok total → Makes (begun m a) total
   -- and a PS so starts it on an idle drive, if EE is off
   pub starts :
       (m : Machine) → Kept m → idle m.state ≡ true → input_at m.state in_ee ≡ false → (k : ℕ) → k < 131 →

@@ -1,6 +1,6 @@
 -- Worked totals, from the sentences of 02, Slip 2: what the walk from a start cell gives, and what a run of it makes.
 -- Assumes nothing.
-use Rattle.std.specs.Prelude.{ℕ, zero, suc, ◌≡◌, Bool, true, false, List, [], ◌∷◌, eqb, ℤ, pos, negsuc}
+use Rattle.std.specs.Prelude.{ℕ, zero, suc, ◌≡◌, Bool, true, false, List, [], ◌∷◌, eqb, ℤ, pos, negsuc, Ok, Err}
 use Prim.Native.String.{String}
 use Rattle.laws.specs.Tests.{choose, both}
 use Rattle.units.specs.declared.CellAddress.{CellAddress}
@@ -14,7 +14,6 @@ use Rattle.machine.specs.Cases.{send, bench}
 use Rattle.machine.specs.declared.Machine.{Machine}
 use Rattle.trace.specs.Course.{begun, steps_over, delays_over, course}
 use Rattle.totals.specs.Walk.{Totalled, totals_of}
-use Rattle.totals.specs.Walk.Totalled.{Given, Refused}
 
 pub data TotalsCase : Type 0 where
   -- from a start cell, so many net steps and milliseconds
@@ -34,12 +33,12 @@ same_steps (pos m) (negsuc n) = false
 same_steps (negsuc m) (pos n) = false
 
 unfoldable pub gives : Totalled → ℤ → ℕ → Bool
-gives (Given s) steps delay = both (same_steps s.steps.0 steps) (eqb s.delay.0 delay)
-gives (Refused k) steps delay = false
+gives (Ok s) steps delay = both (same_steps s.steps.0 steps) (eqb s.delay.0 delay)
+gives (Err k) steps delay = false
 
 unfoldable pub refuses : Totalled → ℕ → Bool
-refuses (Given s) k = false
-refuses (Refused n) k = eqb n k
+refuses (Ok s) k = false
+refuses (Err n) k = eqb n k
 
 unfoldable pub idle_after : ℕ → Machine → Bool
 idle_after n m = idle (after (course n m) m).state

@@ -1,27 +1,19 @@
 -- 02, Slip 2: "From a start cell, follow next addresses to 000 and give the net steps (with multipliers, relative mode) and the delay milliseconds."
 -- Assumes nothing.
-use Rattle.std.specs.Prelude.{ℕ, zero, suc, ◌+◌, ◌-◌, Bool, List, eqb, pos, ◌+ℤ◌}
+use Rattle.std.specs.Prelude.{ℕ, zero, suc, ◌+◌, ◌-◌, Bool, List, eqb, pos, ◌+ℤ◌, Option, Some, None, Result, Ok, Err}
 use Rattle.laws.specs.Tests.{choose}
 use Rattle.units.specs.declared.CellAddress.{CellAddress}
-use Rattle.units.specs.declared.Milliseconds.{Milliseconds}
-use Rattle.units.specs.declared.NetSteps.{NetSteps}
 use Rattle.cellmap.specs.Marks.{no_marks, is_marked, marked, unmarked}
-use Rattle.instruction.specs.Adding.{added_of}
+use Rattle.instruction.specs.Adding.{sums, added_of}
 use Rattle.instruction.specs.declared.Cell.{Cell}
-use Rattle.instruction.specs.declared.adding.Added.{Added}
-use Rattle.instruction.specs.declared.adding.Added.TheVariants.{Counted, Other}
+use Rattle.instruction.specs.declared.adding.Sums.{Sums}
 use Rattle.machine.specs.Record.{cell_at}
 use Rattle.machine.specs.Soundness.{is_cell, sound}
 use Rattle.machine.specs.declared.Machine.{Machine}
-use Rattle.totals.specs.declared.results.Sums.{Sums}
 
 -- the totals, or the number of a refusal
-pub data Totalled : Type 0 where
-  Given : Sums → Totalled
-  Refused : ℕ → Totalled
-
-abbrev pub sums : NetSteps → Milliseconds → Sums
-sums n d = record { steps = n; delay = d }
+abbrev pub Totalled : Type 0
+Totalled = Result Sums ℕ
 
 -- before the first cell
 abbrev pub nothing : Sums
@@ -33,7 +25,7 @@ sum_of s t = sums (record { 0 = s.steps.0 +ℤ t.steps.0 }) (record { 0 = s.dela
 
 -- what the walk needs of a cell: what it adds, and the next address
 pub record Row : Type 0 where
-  pub added : Added
+  pub added : Option Sums
   pub next : CellAddress
 
 abbrev pub row_of : Cell → Row
@@ -58,9 +50,9 @@ pub data Found : Type 0 where
   Another : Found
   Going : Sums → Found
 
-unfoldable pub found_by : Added → Found
-found_by (Counted n d) = Going (sums n d)
-found_by Other = Another
+unfoldable pub found_by : Option Sums → Found
+found_by (Some t) = Going t
+found_by None = Another
 
 -- "whichever is met first along the walk, 12 for a cell met twice and 13 for another code"
 unfoldable pub found : Rows → CellAddress → List Bool → Found
@@ -69,17 +61,17 @@ found rows a met =
 
 -- the walk's end where it does not go on
 unfoldable pub ended : Found → Sums → Totalled
-ended End s = Given s
-ended Again s = Refused 12
-ended Another s = Refused 13
-ended (Going t) s = Refused 12
+ended End s = Ok s
+ended Again s = Err 12
+ended Another s = Err 13
+ended (Going t) s = Err 12
 
 -- with n cells not yet met, of which each cell that is passed is one: when none is left, every cell is met again
 unfoldable pub walk : ℕ → Found → Rows → CellAddress → List Bool → Sums → Totalled
 walk zero f rows a met s = ended f s
-walk (suc n) End rows a met s = Given s
-walk (suc n) Again rows a met s = Refused 12
-walk (suc n) Another rows a met s = Refused 13
+walk (suc n) End rows a met s = Ok s
+walk (suc n) Again rows a met s = Err 12
+walk (suc n) Another rows a met s = Err 13
 walk (suc n) (Going t) rows a met s =
     walk n (found rows (rows a).next (marked met (place_of a))) rows (rows a).next (marked met (place_of a)) (sum_of s t)
 
@@ -89,8 +81,8 @@ followed rows a met s = walk (unmarked met) (found rows a met) rows a met s
 
 -- "11, start outside 100 to 230"
 unfoldable pub totals_in : List Cell → CellAddress → Totalled
-totals_in cells a = choose (is_cell a) (followed (rows_of cells) a no_marks nothing) (Refused 11)
+totals_in cells a = choose (is_cell a) (followed (rows_of cells) a no_marks nothing) (Err 11)
 
 -- "after 2"
 unfoldable pub totals_of : Machine → CellAddress → Totalled
-totals_of m a = choose (sound m) (totals_in m.cells a) (Refused 2)
+totals_of m a = choose (sound m) (totals_in m.cells a) (Err 2)

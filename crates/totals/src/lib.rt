@@ -7,29 +7,27 @@ ghost use Rattle.totals.specs.Walk.{totals_of};
 ghost use Rattle.totals.specs.Results.{totalled_as};
 
 use drive::Drive;
-use results::{Refusal, Totals};
+use results::{Refusal, Sums};
 use soundness::sound;
 use units::CellAddress;
 
 pub mod results;
-mod table;
 pub mod theorems;
 mod walk;
 
 // The totals of the program that starts at a cell of a drive, idle or busy.
-pub fn along(drive: Drive, start: CellAddress) -> Totals
-    ensures { totalled_as result ≡ totals_of drive.machine start }
+pub fn along(drive: &Drive, start: CellAddress) -> Result<Sums, Refusal>
+    ensures { totalled_as result ≡ totals_of drive.now.machine start }
 {
     let machine = drive.machine;
     if !sound(machine) {
-        return Totals::Refused(Refusal::Unsound);
+        return Err(Refusal::Unsound);
     }
     if start.0 < Drive::FIRST {
-        return Totals::Refused(Refusal::NoCell);
+        return Err(Refusal::NoCell);
     }
     if Drive::LAST < start.0 {
-        return Totals::Refused(Refusal::NoCell);
+        return Err(Refusal::NoCell);
     }
-    let cells = machine.cells;
-    walk::totals_in(cells, start)
+    walk::totals_in(&machine.cells, start)
 }

@@ -2,10 +2,10 @@
 ghost use Rattle.std.specs.Prelude.{◌≡◌};
 ghost use Rattle.totals.specs.Results.{number_of};
 
-use units::{Milliseconds, NetSteps};
+pub use instruction::adding::Sums;
 
 // The refusals of 02, Slip 2, with that of an unsound drive.
-#[derive(Clone, Copy)]
+#[derive(Clone, Copy, PartialEq, Eq)]
 pub enum Refusal {
     Unsound,
     NoCell,
@@ -25,17 +25,4 @@ impl Refusal {
             Refusal::OtherCode => 13,
         }
     }
-}
-
-// The net steps, and the milliseconds of delays.
-#[derive(Clone, Copy)]
-pub struct Sums {
-    pub steps: NetSteps,
-    pub delay: Milliseconds,
-}
-
-#[derive(Clone, Copy)]
-pub enum Totals {
-    Given(Sums),
-    Refused(Refusal),
 }

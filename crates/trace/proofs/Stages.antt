@@ -7,15 +7,15 @@ use mathlib.Core.Bool.{Bool, true, false}
 use mathlib.Core.List.{List}
 use lib.Dec.{eqb}
 use lib.IntN.{ℤ, pos, nat_abs, ◌+ℤ◌, +ℤ_idl, +ℤ_assoc}
+use Rattle.std.specs.Prelude.{Some}
 use Rattle.laws.proofs.Tests.{choose-true, choose-false}
 use Rattle.units.specs.Remaining.{is_zero_of}
 use Rattle.units.specs.declared.CellAddress.{CellAddress}
 use Rattle.units.specs.declared.Milliseconds.{Milliseconds}
 use Rattle.units.specs.declared.NetSteps.{NetSteps}
-use Rattle.instruction.specs.Adding.{added_of}
+use Rattle.instruction.specs.Adding.{sums, added_of}
 use Rattle.instruction.specs.Runs.{profile_of}
 use Rattle.instruction.specs.declared.Cell.{Cell}
-use Rattle.instruction.specs.declared.adding.Added.TheVariants.{Counted}
 use Rattle.instruction.specs.declared.run.Motion.TheVariants.{IndexedRun}
 use Rattle.machine.specs.Record.{cell_at, with_running, stopped, is_absolute, idle}
 use Rattle.machine.specs.Starting.{waiting_at, advanced}
@@ -77,7 +77,7 @@ pub data Way (cells : List Cell) : CellAddress → Left → Type 0 where
   end : {a : CellAddress} → eqb a.0 0 ≡ true → Way cells a nothing
   cell :
       {a : CellAddress} {n : NetSteps} {d : Milliseconds} {y : Left} → eqb a.0 0 ≡ false →
-      added_of (cell_at cells a).instruction ≡ Counted n d → Way cells (cell_at cells a).next y → Way cells a (cell_then n d y)
+      added_of (cell_at cells a).instruction ≡ Some (sums n d) → Way cells (cell_at cells a).next y → Way cells a (cell_then n d y)
 
 -- ---- the stages
 
@@ -94,7 +94,7 @@ pub data Stage (cells : List Cell) : State → Left → Type 0 where
   rests : (s : State) → Stage cells (stopped s) nothing
   waits :
       (s : State) (a : CellAddress) {n : NetSteps} {d : Milliseconds} {y : Left} → eqb a.0 0 ≡ false →
-      added_of (cell_at cells a).instruction ≡ Counted n d → Way cells (cell_at cells a).next y →
+      added_of (cell_at cells a).instruction ≡ Some (sums n d) → Way cells (cell_at cells a).next y →
       Stage cells (with_running s (waiting_at a 0)) (cell_then n d y)
   delays :
       (s : State) (a : CellAddress) (k : ℕ) {y : Left} → eqb a.0 0 ≡ false → Way cells (cell_at cells a).next y →

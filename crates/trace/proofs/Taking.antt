@@ -8,6 +8,7 @@ use mathlib.Core.List.{List}
 use lib.Dec.{eqb}
 use lib.IntN.{ℤ, pos, negsuc, nat_abs, +ℤ_idl}
 use borrow.Author.Tests.{eqb-true, ne_eqb}
+use Rattle.std.specs.Prelude.{Option, Some, None}
 use Rattle.laws.specs.Tests.{choose, either}
 use Rattle.laws.proofs.Tests.{choose-by, choose-false}
 use Rattle.laws.proofs.Joins.{both-false-left}
@@ -17,13 +18,12 @@ use Rattle.units.specs.declared.CellAddress.{CellAddress}
 use Rattle.units.specs.declared.Milliseconds.{Milliseconds}
 use Rattle.units.specs.declared.NetSteps.{NetSteps}
 use Rattle.units.specs.declared.Steps.{Steps}
-use Rattle.instruction.specs.Adding.{added_of, net_of, delay_of, is_one_of}
+use Rattle.instruction.specs.Adding.{sums, added_of, net_of, delay_of, is_one_of}
 use Rattle.instruction.specs.Codes.{code_of}
 use Rattle.instruction.specs.Numbers.{numbers_with}
 use Rattle.instruction.specs.Runs.{profile_of, indexed_run}
 use Rattle.instruction.specs.declared.Cell.{Cell}
-use Rattle.instruction.specs.declared.adding.Added.{Added}
-use Rattle.instruction.specs.declared.adding.Added.TheVariants.{Counted, Other}
+use Rattle.instruction.specs.declared.adding.Sums.{Sums}
 use Rattle.instruction.specs.declared.Instruction.{Instruction}
 use Rattle.instruction.specs.declared.Instruction.TheVariants.{Null, IndexedRamp, IndexedRampFine, FreeRamp, FreeRampFine, Indexed, IndexedFine, Free, FreeFine, ZeroSearch, DelayedStop, CamSetting, OutputSetting, CounterReset, OpeningLoop, ClosingLoop, ConditionalJump, TimeDelay, Recovery, CurrentSetting}
 use Rattle.instruction.specs.declared.run.Motion.{Motion}
@@ -122,18 +122,18 @@ abbrev motion_of : Instruction → Motion
 motion_of i = (profile_of i).motion
 
 -- what a code adds, and then the rest
-abbrev added_then : Added → Left → Left
-added_then (Counted n d) y = cell_then n d y
-added_then Other y = y
+abbrev added_then : Option Sums → Left → Left
+added_then (Some t) y = cell_then t.steps t.delay y
+added_then None y = y
 
-never_other : {X : Type 0} {n : NetSteps} {d : Milliseconds} → Other ≡ Counted n d → X
+never_other : {X : Type 0} {t : Sums} → None ≡ Some t → X
 never_other e = let z : ◌≡◌ {A = ℕ} 0 1 = cc in absurd (omega arith)
 
 -- every code that is allowed
 code-taken :
     {cells : List Cell} {y : Left} {n : NetSteps} {d : Milliseconds} (s : State) (a : CellAddress) (held : Cell) → Fit s.presets →
     eqb a.0 0 ≡ false → Way cells (cell_at cells a).next y → (i : Instruction) → (cell_at cells a).instruction ≡ i →
-    added_of i ≡ Counted n d →
+    added_of i ≡ Some (sums n d) →
     Reached cells s.presets (added_then (added_of i) y) (pos 0) 0 1
     (take_cell (with_running s (waiting_at a 0)) (record { instruction = i; next = (cell_at cells a).next }) held)
 unfolding take_cell is_recovery take choose code_of added_of net_of scaled_of multiplier_of profile_of delay_of numbers_with is_one_of either
@@ -161,9 +161,9 @@ code-taken s a h f b w Recovery q o = never_other o
 -- the millisecond that takes a cell makes nothing of it yet
 pub cell-taken :
     {cells : List Cell} {y : Left} {n : NetSteps} {d : Milliseconds} (s : State) (a : CellAddress) (held : Cell) → Fit s.presets →
-    eqb a.0 0 ≡ false → added_of (cell_at cells a).instruction ≡ Counted n d → Way cells (cell_at cells a).next y →
+    eqb a.0 0 ≡ false → added_of (cell_at cells a).instruction ≡ Some (sums n d) → Way cells (cell_at cells a).next y →
     Reached cells s.presets (cell_then n d y) (pos 0) 0 1 (take_cell (with_running s (waiting_at a 0)) (cell_at cells a) held)
 cell-taken {cells} {y} s a h f b o w =
     subst
-    (λ (r : Added). Reached cells s.presets (added_then r y) (pos 0) 0 1 (take_cell (with_running s (waiting_at a 0)) (cell_at cells a) h)) o
+    (λ (r : Option Sums). Reached cells s.presets (added_then r y) (pos 0) 0 1 (take_cell (with_running s (waiting_at a 0)) (cell_at cells a) h)) o
     (code-taken s a h f b w (cell_at cells a).instruction refl o)

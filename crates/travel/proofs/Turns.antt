@@ -2,7 +2,7 @@
 -- Assumes nothing.
 use Prim.Native.Nat.{ℕ, ◌+◌, ◌<◌, ◌≤◌}
 use native.Mathlib.Omega.{arith}
-use mathlib.Core.Path.{◌≡◌, refl, sym, ◌∙◌}
+use mathlib.Core.Path.{◌≡◌, refl, sym, subst, ◌∙◌}
 use mathlib.Core.Bool.{Bool, true, false, not, ◌||◌}
 use mathlib.Core.List.{List}
 use Rattle.laws.specs.Tests.{either}
@@ -46,8 +46,11 @@ none-handed s c limit t cells k e = handed-over (going_start limit k) (rests s s
 -- the limit is given
 pub spent-handed :
     {s : State} {c : Cell} {limit : ℕ} {d r : State} {n : ℕ} → Turning s c limit d n → limit ≤ n → r ≡ d →
-    Handed s c limit (record { given = n; state = r })
-spent-handed w h e cells k q = rw e (handed-spent (w.going cells k q) h)
+    Handed s c limit (record { given = limit; state = r })
+spent-handed {s} {c} {limit} {d} {r} {n} w h e cells k q =
+    let z : n ≡ limit = omega (arith, w.within, h) in
+    let t : Travels limit (drive cells s) (record { given = n; state = r }) = rw e (handed-spent (w.going cells k q) h) in
+    subst (λ (i : ℕ). Travels limit (drive cells s) (record { given = i; state = r })) z t
 
 -- ---- a turn
 

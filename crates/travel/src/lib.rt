@@ -41,10 +41,7 @@ fn is_last(remaining: Remaining) -> bool
 {
     match remaining {
         Remaining::Nothing => false,
-        Remaining::Counted(n) => {
-            let left = n.nearer();
-            left.is_zero()
-        }
+        Remaining::Counted(n) => n.nearer().is_zero(),
         Remaining::Timed(_) => false,
     }
 }
@@ -69,8 +66,7 @@ fn lessened(remaining: Remaining) -> Remaining
 fn placed(mut state: State, position: Position, remaining: Remaining) -> State
     ensures { result ≡ placed_of state position remaining }
 {
-    let running = state.running;
-    let phase = running.phase;
+    let phase = state.running.phase;
     state.position = position;
     in_phase(state, phase, remaining)
 }
@@ -82,18 +78,13 @@ fn run_on(state: State, cell: Cell, limit: u32) -> Travelled
     ensures { (cells : List CellOf) → Kept (record { state = state; cells = cells }) →
         present cells state ≡ cell → Travels limit (record { state = state; cells = cells }) result }
 {
-    let instruction = cell.instruction;
-    let profile = instruction.profile();
-    let running = state.running;
-    let phase = running.phase;
-    let cam = state.cam;
+    let profile = cell.instruction.profile();
     let mut position = state.position;
-    let mut remaining = running.remaining;
-    let mut n: u32 = 0;
-    while n < limit {
-        let backward = backward_in(phase, profile, remaining);
+    let mut remaining = state.running.remaining;
+    for n in 0..limit {
+        let backward = backward_in(state.running.phase, profile, remaining);
         let to = position.stepped(!backward);
-        if meets(cam, to) | is_last(remaining) {
+        if meets(state.cam, to) | is_last(remaining) {
             let here = placed(state, position, remaining);
             return Travelled {
                 given: n + 1,
@@ -102,10 +93,9 @@ fn run_on(state: State, cell: Cell, limit: u32) -> Travelled
         }
         remaining = lessened(remaining);
         position = to;
-        n += 1;
     }
     Travelled {
-        given: n,
+        given: limit,
         state: placed(state, position, remaining),
     }
 }

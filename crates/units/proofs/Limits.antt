@@ -7,7 +7,7 @@ use mir.Facts.{sfits_to_z}
 use Rattle.laws.specs.Tests.{choose, either}
 use Rattle.laws.proofs.Tests.{either_left, either-right}
 use Rattle.laws.proofs.Joins.{and_both, both_end}
-use Rattle.units.specs.Limits.{step_limit, remaining_limit}
+use Rattle.units.specs.Limits.{step_limit}
 use Rattle.units.specs.declared.Steps.{Steps}
 use Rattle.units.specs.declared.position.Position.{Position}
 use Rattle.units.specs.Position.{number_of}
@@ -38,10 +38,6 @@ sfits-shift n p s f =
     sfits-nat_abs w64 (n.0 -ℤ number_of p) 4294967296
     (omega (arith, nat_abs-sub n.0 (number_of p), nat_abs-le n.0 s.sfits, nat_abs-le (number_of p) (sfits_to_z f).sfits))
     (lit< tt)
-
--- a shift within the limit fits
-pub sfits-within : {z : ℤ} → Within z → SFits w32 z
-sfits-within {z} w = sfits-nat_abs w32 z remaining_limit w.within (lit< tt)
 
 below-neg : (n k : ℕ) → lt_z (negsuc n) (neg_ℤ (pos k)) ≡ false → suc n ≤ k
 below-neg n zero t = let e : ◌≡◌ {A = ℕ} 0 1 = cc in absurd (omega arith)

@@ -1,6 +1,7 @@
 -- What remains after one more step: one less, with the same sign.
 -- Assumes nothing.
-use Rattle.std.proofs.Common.{◌≡◌, ℕ, zero, suc, ◌-◌, true, false, eqb, ℤ, pos, negsuc, ◌+ℤ◌, ◌-ℤ◌, nat_abs, sym, refl, ap, ◌∙◌, not-suc-le-zero, arith, w32, SFits, ltb-true, le-ltb, ne_eqb}
+use Rattle.std.proofs.Common.{◌≡◌, zero, suc, ◌-◌, min, false, eqb, ℤ, pos, negsuc, ◌+ℤ◌, ◌-ℤ◌, nat_abs, sym, refl, ap, ◌∙◌, arith, to_z-of_z, w32, SFits, to_z, of_z, le-ltb, ne_eqb}
+use Rattle.std.specs.Int.{int_signum}
 use lib.IntN.{+ℤ_one, -ℤ_one}
 use lib.Signed.{lt_z}
 use Rattle.laws.specs.Tests.{choose}
@@ -62,13 +63,25 @@ is_negative-nearer n h =
 pub within-nearer : (n : Steps) → Within n.0 → Within (nearer_of n).0
 within-nearer n w = record { within = omega (arith, nat_abs-nearer n, w.within) }
 
--- a step towards zero fits the width
-pub sfits_up : (z : ℤ) → SFits w32 z → lt_z z (pos 0) ≡ true → SFits w32 (z +ℤ pos 1)
-sfits_up (pos n) s t = absurd (not-suc-le-zero (ltb-true n 0 t))
-sfits_up (negsuc zero) s t = record { sfits = omega arith }
-sfits_up (negsuc (suc n)) s t = rw (+ℤ_one (negsuc (suc n))) (record { sfits = omega (arith, s.sfits) })
+-- less its sign, a number is one nearer to zero, and fits the width that it fitted
+less-signum : (z : ℤ) → z -ℤ int_signum z ≡ nearerℤ z
+unfolding nearerℤ
+less-signum (pos zero) = refl
+less-signum (pos (suc n)) = let e : min (suc n) 1 ≡ 1 = omega arith in rw e (-ℤ_one (pos (suc n)))
+less-signum (negsuc zero) = refl
+less-signum (negsuc (suc n)) = +ℤ_one (negsuc (suc n))
 
-pub sfits-down : (z : ℤ) → SFits w32 z → lt_z z (pos 0) ≡ false → eqb (nat_abs z) 0 ≡ false → SFits w32 (z -ℤ pos 1)
-sfits-down (pos zero) s t h = let e : ◌≡◌ {A = ℕ} 0 1 = cc in absurd (omega arith)
-sfits-down (pos (suc n)) s t h = rw (-ℤ_one (pos (suc n))) (record { sfits = omega (arith, s.sfits) })
-sfits-down (negsuc n) s t h = let e : ◌≡◌ {A = ℕ} 0 1 = cc in absurd (omega arith)
+sfits-nearer : (z : ℤ) → SFits w32 z → SFits w32 (nearerℤ z)
+unfolding nearerℤ
+sfits-nearer (pos zero) s = s
+sfits-nearer (pos (suc n)) s = record { sfits = omega (arith, s.sfits) }
+sfits-nearer (negsuc zero) s = record { sfits = omega arith }
+sfits-nearer (negsuc (suc n)) s = record { sfits = omega (arith, s.sfits) }
+
+sfits-signum : (z : ℤ) → SFits w32 (int_signum z)
+sfits-signum (pos n) = record { sfits = omega arith }
+sfits-signum (negsuc n) = record { sfits = omega arith }
+
+-- the same of the numbers as they are read back from their bits
+pub nearer-bits : (n : Steps) → SFits w32 n.0 → to_z w32 (of_z w32 (n.0 -ℤ to_z w32 (of_z w32 (int_signum n.0)))) ≡ (nearer_of n).0
+nearer-bits n s = rw (to_z-of_z (sfits-signum n.0), less-signum n.0, to_z-of_z (sfits-nearer n.0 s)) (sym (nearer-is n))

@@ -18,11 +18,11 @@ pub use shift::{is_beyond, steps_of};
 // taken for one another."
 
 // The address of a drive on its line.
-#[derive(Clone, Copy)]
+#[derive(Clone, Copy, PartialEq, Eq)]
 pub struct DriveAddress(pub u8);
 
 // The address of a cell of the program memory; as a next cell, 0 is the end.
-#[derive(Clone, Copy)]
+#[derive(Clone, Copy, PartialEq, Eq)]
 pub struct CellAddress(pub u8);
 
 impl CellAddress {
@@ -35,22 +35,18 @@ impl CellAddress {
     pub fn place(self) -> usize
         ensures { result ≡ self.0 - 100 }
     {
-        let n = self.0 as usize;
-        if n < 100 {
-            return 0;
-        }
-        n - 100
+        usize::from(self.0.saturating_sub(CellAddress::FIRST))
     }
 }
 
 // A count of steps, with the sign of its direction.
-#[derive(Clone, Copy)]
+#[derive(Clone, Copy, PartialEq, Eq)]
 pub struct Steps(pub i32);
 
 // A sum of steps of several runs, with its sign: more than 32 bits hold.
-#[derive(Clone, Copy)]
+#[derive(Clone, Copy, PartialEq, Eq)]
 pub struct NetSteps(pub i64);
 
 // A count of milliseconds.
-#[derive(Clone, Copy)]
+#[derive(Clone, Copy, PartialEq, Eq)]
 pub struct Milliseconds(pub u32);

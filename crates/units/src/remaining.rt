@@ -23,13 +23,6 @@ impl Steps {
     pub fn nearer(self) -> Steps
         ensures { result ≡ nearer_of self }
     {
-        let n = self.0;
-        if n < 0 {
-            return Steps(n + 1);
-        }
-        if n == 0 {
-            return Steps(n);
-        }
-        Steps(n - 1)
+        Steps(self.0 - self.0.signum())
     }
 }

@@ -9,11 +9,8 @@ impl Steps {
     pub fn scaled(self, x4: bool) -> i64
         ensures { result ≡ scaled_of self x4 }
     {
-        let n = self.0 as i64;
-        if x4 {
-            return n * 4;
-        }
-        n
+        let n = i64::from(self.0);
+        if x4 { n * 4 } else { n }
     }
 
     // The shift of an indexed run of these steps: times m; in absolute mode from the position to them, whatever m is.
@@ -21,11 +18,10 @@ impl Steps {
         ensures { result ≡ shift_of self x4 absolute position }
     {
         if absolute {
-            let target = self.0 as i64;
-            let p = position.number();
-            return target - p;
+            i64::from(self.0) - position.number()
+        } else {
+            self.scaled(x4)
         }
-        self.scaled(x4)
     }
 }
 
@@ -33,11 +29,8 @@ impl Steps {
 pub fn is_beyond(shift: i64) -> bool
     ensures { result ≡ is_beyond_of shift }
 {
-    let limit = Steps::LIMIT as i64;
-    if limit < shift {
-        return true;
-    }
-    shift < -limit
+    let limit = i64::from(Steps::LIMIT);
+    limit < shift || shift < -limit
 }
 
 // A shift within the limit of rests, as steps.

@@ -10,17 +10,17 @@ use lib.Dec.{ltb}
 use lib.ListN.{length, get_or}
 use lib.Seq.{get_or-set_other}
 use borrow.Author.Tests.{le-ltb}
+use Rattle.std.specs.declared.option.Option.{Option}
+use Rattle.std.specs.declared.option.Option.TheVariants.{Some, None}
 use Rattle.laws.proofs.Tests.{choose-by, choose-true, choose-false}
 use Rattle.fields.specs.Rows.{parse_fields}
 use Rattle.fields.specs.declared.rows.Parsed.{Parsed}
 use Rattle.format.specs.Formats.{cell}
 use Rattle.instruction.specs.Texts.{sent_cell}
 use Rattle.instruction.specs.declared.Cell.{Cell}
-use Rattle.instruction.specs.declared.text.Sent.{Sent}
-use Rattle.instruction.specs.declared.text.Sent.TheVariants as sent
 use Rattle.machine.specs.Record.{null_cell, stored_at}
 use Rattle.machine.specs.Soundness.{sound}
-use Rattle.machine.specs.Commands.{fields_at, code_in, is_code, address_of, on_fields, on_sent, store_in}
+use Rattle.machine.specs.Commands.{fields_at, code_in, is_code, address_of, on_parsed, on_fields, on_sent, store_in}
 use Rattle.machine.specs.Acting.{cells_after, machine_after}
 use Rattle.machine.specs.Strings.{body_of, told}
 use Rattle.machine.specs.Demand2.{address_at}
@@ -60,16 +60,14 @@ place_stored AskSuspended = 131
 place_stored Wrong = 131
 
 -- what a WN stores lies at the place that its BBB names
-stored-named : (s : List ℕ) (p : Parsed) → place_stored (store_in s p) < 131 → place_stored (store_in s p) ≡ place_by p
-unfolding store_in on_sent on_fields place_by place_stored
-stored-named s p =
-    by-test p.ok
-    (λ t. rw (t, choose-true true (on_sent (address_of p.values) (sent_cell s p.at)) Wrong refl, choose-true true (place_of (address_of p.values)) 131 refl) (sent-named (sent_cell s p.at)))
-    (λ t. rw (t, choose-false false (on_sent (address_of p.values) (sent_cell s p.at)) Wrong refl) (λ h. absurd (omega (arith, h))))
+stored-named : (s : List ℕ) (x : Option Parsed) → place_stored (store_in s x) < 131 → place_stored (store_in s x) ≡ place_by x
+unfolding store_in on_sent on_parsed place_by place_stored
+stored-named s (Some p) = sent-named (sent_cell s p.at)
   where
-    sent-named : (x : Sent) → place_stored (on_sent (address_of p.values) x) < 131 → place_stored (on_sent (address_of p.values) x) ≡ place_of (address_of p.values)
-    sent-named (sent.Held c) h = refl
-    sent-named sent.Wrong h = absurd (omega (arith, h))
+    sent-named : (x : Option Cell) → place_stored (on_sent (address_of p.values) x) < 131 → place_stored (on_sent (address_of p.values) x) ≡ place_of (address_of p.values)
+    sent-named (Some c) h = refl
+    sent-named None h = absurd (omega (arith, h))
+stored-named s None = λ h. absurd (omega (arith, h))
 
 place_at : (k : ℕ) → place_of (address_at k) ≡ k
 unfolding place_of

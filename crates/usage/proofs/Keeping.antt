@@ -3,7 +3,7 @@
 use Prim.Native.Nat.{ℕ, ◌<◌, ◌≤◌}
 use native.Mathlib.Omega.{arith}
 use native.Mathlib.Decide.{ℕ_discrete}
-use mathlib.Core.Path.{◌≡◌, sym, ap, ◌∙◌, subst}
+use mathlib.Core.Path.{◌≡◌, refl, sym, ap, ◌∙◌, subst}
 use mathlib.Core.Bool.{Bool, true, false, not}
 use mathlib.Core.List.{List, [], ◌∷◌}
 use mathlib.Core.Logic.{⊎_elim}
@@ -155,3 +155,19 @@ unmarked-beyond used k l h = by-test (is_marked used k) (λ t. absurd (omega (ar
 pub idle-same : (c d : Cell) (at : ℕ) (used : List Bool) → loses c d ≡ false → loses d c ≡ false → idles c d at used ≡ true
 unfolding idles
 idle-same c d at used l g = either-true-right _ _ (both_true (ap not l) (ap not g))
+
+-- a cell lacks no way of its own
+leads-next : (c : Cell) → leads_to c (next_place c) ≡ true
+unfolding leads_to
+leads-next c = either-true-right _ _ (either-true-left _ _ (eq-eqb (next_place c) (next_place c) refl))
+
+leads-jump : (c : Cell) → leads_to c (jump_place c) ≡ true
+unfolding leads_to
+leads-jump c = either-true-right _ _ (either-true-right _ _ (eq-eqb (jump_place c) (jump_place c) refl))
+
+loses-none : (c : Cell) → loses c c ≡ false
+unfolding loses
+loses-none c = ap not (both_true (leads-next c) (leads-jump c))
+
+pub idle-still : (c : Cell) (at : ℕ) (used : List Bool) → idles c c at used ≡ true
+idle-still c at used = idle-same c c at used (loses-none c) (loses-none c)

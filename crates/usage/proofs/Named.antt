@@ -7,7 +7,8 @@ use mathlib.Core.Bool.{true, false}
 use mathlib.Core.List.{List, [], ◌∷◌}
 use lib.ListN.{length}
 use Rattle.laws.specs.Tests.{choose}
-use Rattle.laws.proofs.Tests.{choose-true, choose-false}
+use Rattle.std.specs.declared.option.Option.{Option}
+use Rattle.std.specs.declared.option.Option.TheVariants.{Some, None}
 use Rattle.fields.specs.Reader.{field_at}
 use Rattle.fields.specs.Rows.{fields_from, parse_fields}
 use Rattle.fields.specs.declared.rows.Parsed.{Parsed}
@@ -21,10 +22,10 @@ unfolding place_in place_by body_of parse_fields fields_from field_at choose
 named-nothing [] e = refl
 named-nothing (x ∷ b) e = absurd (omega (arith, e))
 
-pub named-wrong : {p q : Parsed} → p ≡ q → p.ok ≡ false → 131 ≡ place_by q
+pub named-wrong : {q : Option Parsed} → None ≡ q → 131 ≡ place_by q
 unfolding place_by
-named-wrong {p} e o = sym (ap place_by (sym e) ∙ choose-false _ _ 131 o)
+named-wrong e = ap place_by e
 
-pub named-right : {p q : Parsed} {k : ℕ} → p ≡ q → p.ok ≡ true → k ≡ place_of (address_of p.values) → k ≡ place_by q
+pub named-right : {p : Parsed} {q : Option Parsed} {k : ℕ} → Some p ≡ q → k ≡ place_of (address_of p.values) → k ≡ place_by q
 unfolding place_by
-named-right {p} e o h = h ∙ sym (ap place_by (sym e) ∙ choose-true _ _ 131 o)
+named-right e h = h ∙ ap place_by e

@@ -1,7 +1,7 @@
 -- 02, Slip 5: the map of used cells as it is brought up to date. "The map isn't part of a drive": it is a list of marks beside it.
 -- Assumes nothing.
-use Rattle.std.specs.Prelude.{ℕ, ◌≡◌, Bool, true, false, not, List, [], ◌∷◌, leb, get_or}
-use Rattle.laws.specs.Tests.{choose, both, either}
+use Rattle.std.specs.Prelude.{ℕ, ◌≡◌, Bool, true, false, not, List, [], ◌∷◌, leb, get_or, Option, Some, None}
+use Rattle.laws.specs.Tests.{both, either}
 use Rattle.fields.specs.Rows.{parse_fields}
 use Rattle.fields.specs.declared.rows.Parsed.{Parsed}
 use Rattle.format.specs.Formats.{cell}
@@ -14,8 +14,9 @@ use Rattle.reachability.specs.Graph.{place_of, next_place, jump_place, leads, Co
 use Rattle.reachability.specs.Search.{Grown}
 
 -- the place of the cell that a string names: BBB of `AAWN,BBB,..`. 131 where it names none
-unfoldable pub place_by : Parsed → ℕ
-place_by p = choose p.ok (place_of (address_of p.values)) 131
+unfoldable pub place_by : Option Parsed → ℕ
+place_by (Some p) = place_of (address_of p.values)
+place_by None = 131
 
 unfoldable pub place_in : List ℕ → ℕ
 place_in b = place_by (parse_fields (cell ∷ []) (body_of b) fields_at)

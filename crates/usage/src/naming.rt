@@ -6,7 +6,8 @@ use parser::naming::cell_field;
 use reachability::ways::{PLACES, place_of};
 use units::CellAddress;
 
-// The place of the cell that a string names, whatever it asks of it; 131 where it names none.
+// The place of the cell that a string names, whatever it asks of it; 131 where it names none, as the
+// definitions number it.
 pub fn place_in(text: &[u8]) -> usize
     ensures { result ≡ place_in text.now }
 {
@@ -14,9 +15,8 @@ pub fn place_in(text: &[u8]) -> usize
     if n == 0 {
         return PLACES;
     }
-    let named = cell_field(&text[..n - 1]);
-    if !named.ok {
+    let Some(named) = cell_field(&text[..n - 1]) else {
         return PLACES;
-    }
+    };
     place_of(CellAddress((named.values[0] % 256) as u8))
 }

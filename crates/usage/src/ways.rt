@@ -8,14 +8,11 @@ use instruction::Cell;
 use reachability::ways::{PLACES, jump_place, next_place};
 
 // Whether a map has a place.
-pub fn has(used: CellMap, at: usize) -> bool
-    ensures value { result ≡ is_marked used at }
+pub fn has(used: &CellMap, at: usize) -> bool
+    ensures value { result ≡ is_marked used.now at }
     ensures place { result ≡ true → at < 131 }
 {
-    if PLACES <= at {
-        return false;
-    }
-    used[at]
+    at < PLACES && used[at]
 }
 
 // Whether a cell leads to a place. To no cell there is no way that it could lack.
@@ -23,10 +20,7 @@ pub fn has(used: CellMap, at: usize) -> bool
 fn leads_to(cell: Cell, k: usize) -> bool
     ensures { result ≡ leads_to cell k }
 {
-    if PLACES <= k {
-        return true;
-    }
-    (next_place(cell) == k) | (jump_place(cell) == k)
+    PLACES <= k || next_place(cell) == k || jump_place(cell) == k
 }
 
 // Whether a way of the old cell is none of the new.
@@ -34,5 +28,5 @@ fn leads_to(cell: Cell, k: usize) -> bool
 pub fn loses(old: Cell, new: Cell) -> bool
     ensures { result ≡ loses_way old new }
 {
-    !(leads_to(new, next_place(old)) & leads_to(new, jump_place(old)))
+    !(leads_to(new, next_place(old)) && leads_to(new, jump_place(old)))
 }

@@ -4,9 +4,9 @@ use Prim.Native.Nat.{ℕ}
 use mathlib.Core.Path.{◌≡◌, refl}
 use mathlib.Core.List.{List, [], ◌∷◌, map}
 use Rattle.laws.specs.Tests.{choose}
-use Rattle.varint.specs.Groups.{groups_from, groups, behind, read_from, bounded, number_at}
+use Rattle.varint.specs.Groups.{groups_from, groups, behind, read_from, bounded, number_at, found}
 use Rattle.varint.specs.Signs.{folded, unfolded}
-use Rattle.varint.specs.declared.groups.Reading.TheVariants.{Found, Refused}
+use Rattle.std.specs.Prelude.{None}
 
 written-cases :
     map groups (0 ∷ 127 ∷ 128 ∷ 228 ∷ 2181 ∷ 4294967295 ∷ [])
@@ -19,7 +19,7 @@ read-cases :
     map (λ (s : List ℕ). number_at s 0)
     ((0 ∷ []) ∷ (228 ∷ 1 ∷ 9 ∷ []) ∷ (255 ∷ 255 ∷ 255 ∷ 255 ∷ 15 ∷ []) ∷ [] ∷ (228 ∷ []) ∷ (128 ∷ 0 ∷ []) ∷ (129 ∷ 128 ∷ 0 ∷ [])
     ∷ (128 ∷ 128 ∷ 128 ∷ 128 ∷ 16 ∷ []) ∷ (255 ∷ 255 ∷ 255 ∷ 255 ∷ 16 ∷ []) ∷ (128 ∷ 128 ∷ 128 ∷ 128 ∷ 128 ∷ 1 ∷ []) ∷ [])
-    ≡ Found 0 1 ∷ Found 228 2 ∷ Found 4294967295 5 ∷ Refused ∷ Refused ∷ Refused ∷ Refused ∷ Refused ∷ Refused ∷ Refused ∷ []
+    ≡ found 0 1 ∷ found 228 2 ∷ found 4294967295 5 ∷ None ∷ None ∷ None ∷ None ∷ None ∷ None ∷ None ∷ []
 unfolding number_at bounded read_from behind choose
 read-cases = refl
 

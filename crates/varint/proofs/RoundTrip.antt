@@ -11,9 +11,10 @@ use lib.Seq.{drop-append_seam, drop-drop}
 use lib.Dec.{ltb, eqb}
 use borrow.Author.Tests.{lt-ltb, le-ltb, ltb-true, ltb-false, eqb-false, ne_eqb}
 use Rattle.laws.proofs.Tests.{choose-by, choose-true, choose-false, lt-or-le}
-use Rattle.varint.specs.Groups.{groups_from, groups, behind, read_from, bounded, number_at}
+use Rattle.varint.specs.Groups.{groups_from, groups, behind, read_from, bounded, number_at, found}
 use Rattle.varint.specs.declared.groups.Reading.{Reading}
-use Rattle.varint.specs.declared.groups.Reading.TheVariants.{Found, Refused}
+use Rattle.std.specs.Prelude.{Option, Some, None}
+use Rattle.std.proofs.lemmas.Option.{same_Some}
 use Rattle.varint.proofs.Turns.{groups-last, groups-next}
 
 -- ---- how many groups
@@ -32,13 +33,13 @@ length-groups n = length_from 4 n
 
 -- ---- what is written is read
 
-behind-found : (c v next : ℕ) → 0 < v → behind c (Found v next) ≡ Found (c + 128 * v) next
+behind-found : (c v next : ℕ) → 0 < v → behind c (found v next) ≡ found (c + 128 * v) next
 unfolding behind
 behind-found c v next h = choose-false _ _ _ (ne_eqb v 0 (λ e. omega arith))
 
-from_last : (f at n : ℕ) (rest : List ℕ) → n < 128 → read_from (suc f) at (n ∷ rest) ≡ Found n (at + 1)
+from_last : (f at n : ℕ) (rest : List ℕ) → n < 128 → read_from (suc f) at (n ∷ rest) ≡ found n (at + 1)
 unfolding read_from
-from_last f at n rest h = choose-true _ _ _ (lt-ltb n 128 h) ∙ ap (Found n) (omega arith)
+from_last f at n rest h = choose-true _ _ _ (lt-ltb n 128 h) ∙ ap (found n) (omega arith)
 
 from_more :
     (f at c : ℕ) (s : List ℕ) → c < 128 → read_from (suc f) at ((128 + c) ∷ s) ≡ behind c (read_from f (suc at) s)
@@ -51,8 +52,8 @@ from_more f at c s h =
 -- a group with others behind it, which are read back
 more-back :
     (f at n : ℕ) (rest : List ℕ) → 128 ≤ n →
-    read_from (suc f) (suc at) (groups_from f (n / 128) ++ rest) ≡ Found (n / 128) (suc at + length (groups_from f (n / 128))) →
-    read_from (suc (suc f)) at (groups_from (suc f) n ++ rest) ≡ Found n (at + length (groups_from (suc f) n))
+    read_from (suc f) (suc at) (groups_from f (n / 128) ++ rest) ≡ found (n / 128) (suc at + length (groups_from f (n / 128))) →
+    read_from (suc (suc f)) at (groups_from (suc f) n ++ rest) ≡ found n (at + length (groups_from (suc f) n))
 more-back f at n rest l back =
     let d : suc f - 1 ≡ f = omega arith in
     let g = groups_from f (n / 128) in
@@ -63,15 +64,15 @@ more-back f at n rest l back =
     ∙ from_more (suc f) at (n % 128) (g ++ rest) (omega arith)
     ∙ ap (behind (n % 128)) back
     ∙ behind-found (n % 128) (n / 128) (suc at + length g) (omega arith)
-    ∙ ap (λ (z : ℕ). Found z (suc at + length g)) v
-    ∙ ap (Found n) x
+    ∙ ap (λ (z : ℕ). found z (suc at + length g)) v
+    ∙ ap (found n) x
 
-one-back : (f at n : ℕ) (rest : List ℕ) → n < 128 → read_from (suc f) at (groups_from f n ++ rest) ≡ Found n (at + length (groups_from f n))
+one-back : (f at n : ℕ) (rest : List ℕ) → n < 128 → read_from (suc f) at (groups_from f n ++ rest) ≡ found n (at + length (groups_from f n))
 one-back f at n rest h = rw (groups-last f n h) (from_last f at n rest h)
 
 from_back :
     (f at n : ℕ) (rest : List ℕ) → n < 128 ^ suc f →
-    read_from (suc f) at (groups_from f n ++ rest) ≡ Found n (at + length (groups_from f n))
+    read_from (suc f) at (groups_from f n ++ rest) ≡ found n (at + length (groups_from f n))
 from_back zero at n rest h = one-back zero at n rest (omega arith)
 from_back (suc f) at n rest h =
     let p : n < 128 ^ suc f * 128 = rw (← pow-suc 128 (suc f)) h in
@@ -79,7 +80,7 @@ from_back (suc f) at n rest h =
 
 -- at any place of a string, whatever follows
 pub number-back :
-    (n : ℕ) (pre rest : List ℕ) → n < 2 ^ 32 → number_at (pre ++ (groups n ++ rest)) (length pre) ≡ Found n (length pre + length (groups n))
+    (n : ℕ) (pre rest : List ℕ) → n < 2 ^ 32 → number_at (pre ++ (groups n ++ rest)) (length pre) ≡ found n (length pre + length (groups n))
 unfolding number_at groups bounded
 number-back n pre rest h =
     ap (λ (s : List ℕ). bounded (read_from 5 (length pre) s)) (drop-append_seam pre (groups_from 4 n ++ rest))
@@ -88,31 +89,38 @@ number-back n pre rest h =
 
 -- ---- what is read was written
 
-record Behind (c v next : ℕ) (r : Reading) : Type 0 where
+record Behind (c v next : ℕ) (r : Option Reading) : Type 0 where
   high : ℕ
-  found : r ≡ Found high next
+  read : r ≡ found high next
   some : 0 < high
   sum : v ≡ c + 128 * high
 
-behind-inv : (c v next : ℕ) (r : Reading) → behind c r ≡ Found v next → Behind c v next r
+-- the parts of equal readings
+found_parts : (v next : ℕ) (r : Reading) → Some r ≡ found v next → (r.value ≡ v) × (r.next ≡ next)
+found_parts v next r e =
+    let same = same_Some r (record { value = v; next = next }) e in
+    (ap (λ (x : Reading). x.value) same, ap (λ (x : Reading). x.next) same)
+
+behind-inv : (c v next : ℕ) (r : Option Reading) → behind c r ≡ found v next → Behind c v next r
 unfolding behind
-behind-inv c v next Refused = λ e. let z : ◌≡◌ {A = ℕ} 0 1 = cc in absurd (omega arith)
-behind-inv c v next (Found w n) =
-    choose-by (λ (r : Reading). r ≡ Found v next → Behind c v next (Found w n)) (eqb w 0)
-    (λ t e. let z : ◌≡◌ {A = ℕ} 0 1 = cc in absurd (omega arith))
-    (λ t e. let i : n ≡ next = cc in let j : c + 128 * w ≡ v = cc in
-    let q = eqb-false w 0 t in
-    record { high = w; found = ap (Found w) i; some = omega arith; sum = sym j })
+behind-inv c v next None = λ e. absurd (cc)
+behind-inv c v next (Some r) =
+    choose-by (λ (x : Option Reading). x ≡ found v next → Behind c v next (Some r)) (eqb r.value 0)
+    (λ t e. absurd (cc))
+    (λ t e. let p = found_parts v next (record { value = c + 128 * r.value; next = r.next }) e in
+    let q = eqb-false r.value 0 t in
+    record { high = r.value; read = ap (λ (n : ℕ). found r.value n) p.1; some = omega arith; sum = sym p.0 })
 
 -- the number v, up to the place next, stands at the front of s, which begins at place at
 record Front (f at : ℕ) (s : List ℕ) (v next : ℕ) : Type 0 where
   end : next ≡ at + length (groups_from f v)
   bytes : s ≡ groups_from f v ++ drop (length (groups_from f v)) s
 
-front-last : (f at b : ℕ) (s : List ℕ) (v next : ℕ) → b < 128 → Found b (suc at) ≡ Found v next → Front f at (b ∷ s) v next
+front-last : (f at b : ℕ) (s : List ℕ) (v next : ℕ) → b < 128 → found b (suc at) ≡ found v next → Front f at (b ∷ s) v next
 front-last f at b s v next h e =
-    let i : b ≡ v = cc in
-    let j : suc at ≡ next = cc in
+    let p = found_parts v next (record { value = b; next = suc at }) e in
+    let i = p.0 in
+    let j = p.1 in
     let g : groups_from f v ≡ b ∷ [] = rw (← i) (groups-last f b h) in
     record { end = omega (arith, ap length g); bytes = rw g }
 
@@ -126,38 +134,38 @@ front-more f at b high s v next l u p e r =
     let g : groups_from (suc f) v ≡ b ∷ groups_from f high = groups-next (suc f) v (omega arith) (omega arith) ∙ rw (d, q, m) in
     record { end = omega (arith, ap length g, r.end); bytes = rw g (ap (λ (z : List ℕ). b ∷ z) r.bytes) }
 
-none_found : (v next : ℕ) {A : Type 0} → Refused ≡ Found v next → A
-none_found v next e = let z : ◌≡◌ {A = ℕ} 0 1 = cc in absurd (omega arith)
+none_found : (v next : ℕ) {A : Type 0} → None ≡ found v next → A
+none_found v next e = absurd (cc)
 
-read-zero : (at : ℕ) (s : List ℕ) (c : ℕ) → behind c (read_from 0 at s) ≡ Refused
+read-zero : (at : ℕ) (s : List ℕ) (c : ℕ) → behind c (read_from 0 at s) ≡ None
 unfolding read_from behind
 read-zero at s c = refl
 
 -- what is read of a string with the first byte b, for a front of which the case of others behind is given
 from-cases :
     (f at b : ℕ) (s : List ℕ) (v next : ℕ) →
-    (128 ≤ b → b < 256 → behind (b - 128) (read_from f (suc at) s) ≡ Found v next → Front f at (b ∷ s) v next) →
-    read_from (suc f) at (b ∷ s) ≡ Found v next → Front f at (b ∷ s) v next
+    (128 ≤ b → b < 256 → behind (b - 128) (read_from f (suc at) s) ≡ found v next → Front f at (b ∷ s) v next) →
+    read_from (suc f) at (b ∷ s) ≡ found v next → Front f at (b ∷ s) v next
 unfolding read_from
 from-cases f at b s v next more =
-    choose-by (λ (r : Reading). r ≡ Found v next → Front f at (b ∷ s) v next) (ltb b 128)
+    choose-by (λ (r : Option Reading). r ≡ found v next → Front f at (b ∷ s) v next) (ltb b 128)
     (λ t. front-last f at b s v next (ltb-true b 128 t))
-    (λ t. choose-by (λ (r : Reading). r ≡ Found v next → Front f at (b ∷ s) v next) (ltb b 256)
+    (λ t. choose-by (λ (r : Option Reading). r ≡ found v next → Front f at (b ∷ s) v next) (ltb b 256)
     (λ u. more (ltb-false b 128 t) (ltb-true b 256 u)) (λ u. none_found v next))
 
-from_empty : (f at : ℕ) → read_from f at [] ≡ Refused
+from_empty : (f at : ℕ) → read_from f at [] ≡ None
 unfolding read_from
 from_empty zero at = refl
 from_empty (suc f) at = refl
 
-from_front : (f at : ℕ) (s : List ℕ) (v next : ℕ) → read_from (suc f) at s ≡ Found v next → Front f at s v next
+from_front : (f at : ℕ) (s : List ℕ) (v next : ℕ) → read_from (suc f) at s ≡ found v next → Front f at s v next
 from_front f at [] v next e = none_found v next (sym (from_empty (suc f) at) ∙ e)
 from_front zero at (b ∷ s) v next e =
     from-cases zero at b s v next (λ l u q. none_found v next (sym (read-zero (suc at) s (b - 128)) ∙ q)) e
 from_front (suc f) at (b ∷ s) v next e =
     from-cases (suc f) at b s v next (λ l u q.
     let i = behind-inv (b - 128) v next (read_from (suc f) (suc at) s) q in
-    front-more f at b i.high s v next l u i.some i.sum (from_front f (suc at) s i.high next i.found)) e
+    front-more f at b i.high s v next l u i.some i.sum (from_front f (suc at) s i.high next i.read)) e
 
 -- a number read at a place: it is below 2 ^ 32, its groups stand there, and the place after them is handed back
 pub record Stands (s : List ℕ) (at v next : ℕ) : Type 0 where
@@ -165,15 +173,15 @@ pub record Stands (s : List ℕ) (at v next : ℕ) : Type 0 where
   pub end : next ≡ at + length (groups v)
   pub bytes : drop at s ≡ groups v ++ drop next s
 
-bounded-inv : (r : Reading) (v next : ℕ) → bounded r ≡ Found v next → (v < 2 ^ 32) × (r ≡ Found v next)
+bounded-inv : (r : Option Reading) (v next : ℕ) → bounded r ≡ found v next → (v < 2 ^ 32) × (r ≡ found v next)
 unfolding bounded
-bounded-inv Refused v next = none_found v next
-bounded-inv (Found w n) v next =
-    choose-by (λ (r : Reading). r ≡ Found v next → (v < 2 ^ 32) × (Found w n ≡ Found v next)) (ltb w (2 ^ 32))
-    (λ t e. let i : w ≡ v = cc in (omega (arith, ltb-true w (2 ^ 32) t), e))
+bounded-inv None v next = none_found v next
+bounded-inv (Some r) v next =
+    choose-by (λ (x : Option Reading). x ≡ found v next → (v < 2 ^ 32) × (Some r ≡ found v next)) (ltb r.value (2 ^ 32))
+    (λ t e. let p = found_parts v next r e in (omega (arith, ltb-true r.value (2 ^ 32) t, p.0), e))
     (λ t. none_found v next)
 
-pub number-stands : (s : List ℕ) (at v next : ℕ) → number_at s at ≡ Found v next → Stands s at v next
+pub number-stands : (s : List ℕ) (at v next : ℕ) → number_at s at ≡ found v next → Stands s at v next
 unfolding number_at groups
 number-stands s at v next e =
     let b = bounded-inv (read_from 5 at (drop at s)) v next e in

@@ -3,11 +3,11 @@ ghost use Rattle.std.specs.Prelude.{◌≡◌, ◌+◌, ◌≤◌, length};
 ghost use Rattle.laws.specs.Writing.{Put};
 ghost use Rattle.varint.specs.Groups.{groups, number_at};
 
-// A number and the place after it, or none: cut off, not in the shortest form, or too large.
+// A number and the place after it.
 #[derive(Clone, Copy)]
-pub enum Reading {
-    Found { value: u32, next: usize },
-    Refused,
+pub struct Reading {
+    pub value: u32,
+    pub next: usize,
 }
 
 // The groups of a number from a place on; hands back the place after them.
@@ -17,70 +17,51 @@ pub fn put_number(buf: &mut [u8], at: usize, n: u32) -> usize
 {
     let mut i = at;
     let mut left = n;
-    let mut k: usize = 4;
-    while 0 < k {
-        if left < 128 {
-            buf[i] = left as u8;
-            return i + 1;
-        }
+    while 128 <= left {
         buf[i] = (128 + left % 128) as u8;
         left /= 128;
         i += 1;
-        k -= 1;
     }
     buf[i] = left as u8;
     i + 1
 }
 
-// The number at a place. Most have one group, read at once.
-pub fn read_number(s: &[u8], from: usize) -> Reading
+// The number at a place, if it is whole, in its shortest form and not too large. Most have one
+// group, read at once.
+pub fn read_number(s: &[u8], from: usize) -> Option<Reading>
     ensures { result ≡ number_at s.now from }
 {
-    if s.len() <= from {
-        return Reading::Refused;
-    }
-    let b = s[from];
+    let b = *s.get(from)?;
     if b < 128 {
-        return Reading::Found {
-            value: b as u32,
+        return Some(Reading {
+            value: u32::from(b),
             next: from + 1,
-        };
+        });
     }
     read_groups(s, from)
 }
 
 // The same, one group after another.
-fn read_groups(s: &[u8], from: usize) -> Reading
+fn read_groups(s: &[u8], from: usize) -> Option<Reading>
+    requires { from ≤ length s.now }
     ensures { result ≡ number_at s.now from }
 {
     let mut value: u64 = 0;
     let mut weight: u64 = 1;
-    let mut least: u8 = 0;
-    let mut k: usize = 0;
-    let mut at = from;
-    while k < 5 {
-        if s.len() <= at {
-            return Reading::Refused;
-        }
-        let b = s[at];
-        at += 1;
+    for k in 0..5 {
+        let b = *s.get(from + k)?;
         if b < 128 {
-            if b < least {
-                return Reading::Refused;
+            if b == 0 && 0 < k {
+                return None;
             }
-            value += b as u64 * weight;
-            if 0xffff_ffff < value {
-                return Reading::Refused;
-            }
-            return Reading::Found {
-                value: value as u32,
-                next: at,
-            };
+            value += u64::from(b) * weight;
+            return Some(Reading {
+                value: u32::try_from(value).ok()?,
+                next: from + k + 1,
+            });
         }
-        value += (b - 128) as u64 * weight;
+        value += u64::from(b - 128) * weight;
         weight *= 128;
-        least = 1;
-        k += 1;
     }
-    Reading::Refused
+    None
 }

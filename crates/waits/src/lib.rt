@@ -2,18 +2,18 @@
 // the whole memory, once.
 #![tactic(auto)]
 
-ghost use Rattle.std.specs.Prelude.{◌-◌, ◌<◌, ◌≤◌, min, ◌≡◌, true, eqb, set};
+ghost use Rattle.std.specs.Prelude.{◌-◌, ◌≤◌, min, ◌≡◌, true, eqb};
 ghost use Rattle.laws.specs.Tests.{either};
 ghost use Rattle.machine.specs.Soundness.{sound};
 ghost use Rattle.machine.specs.Waiting.{end_at, settled, wait as wait_of};
 ghost use Rattle.changes.specs.Changes.{delay_of};
-ghost use Rattle.waits.specs.Waiting.{by_value, delay_remaining, ran_of};
+ghost use Rattle.waits.specs.Waiting.{delay_remaining, ran_of};
 
-use changes::{Change, change_at, delaying, running_after};
+use changes::{carry_out, delaying, is_more, next_change};
 use execution::milliseconds::millisecond;
 use instruction::Cell;
 use machine::answers::End;
-use machine::{Cam, Remaining, Running, State};
+use machine::{Remaining, Running, State};
 use progress::{idle, moving};
 use units::Milliseconds;
 
@@ -35,6 +35,7 @@ pub fn wait(cells: [Cell; 131], state: State, budget: Milliseconds) -> Ran
     let limit = budget.0;
     let mut d = state;
     let mut n: u32 = 0;
+    // No `for`: a delay takes many milliseconds in a turn.
     loop {
         let left = limit - n;
         if is_over(d, left) {
@@ -42,32 +43,18 @@ pub fn wait(cells: [Cell; 131], state: State, budget: Milliseconds) -> Ran
         }
         let given = lasting(d.running, left);
         if given > 0 {
-            let running = counted_down(d.running, given);
-            d.running = running;
+            d.running = counted_down(d.running, given);
             n += given;
             continue;
         }
         let cell = cells[d.running.cell.place()];
-        let change = change_at(d.running, &d.inputs, &d.outputs, cell);
+        let change = next_change(&d, cell);
         n += 1;
-        if by_value(change) {
+        if is_more(change) {
             let held = cells[d.suspended.cell.place()];
             d = millisecond(d, cell, held);
-            continue;
-        }
-        let running = running_after(change, d.running);
-        d.running = running;
-        match change {
-            Change::Output(_, place, on) => set_output(&mut d.outputs, place, on),
-            Change::Cam(_, cam) => {
-                // By its fields: copied whole, it is read wider than it was written.
-                let position = cam.position;
-                let set = cam.set;
-                let cam = Cam { set, position };
-                d.cam = cam;
-            }
-            Change::Position(_, position) => d.position = position,
-            _ => {}
+        } else {
+            carry_out(&mut d, change);
         }
     }
 }
@@ -77,13 +64,7 @@ pub fn wait(cells: [Cell; 131], state: State, budget: Milliseconds) -> Ran
 fn is_over(state: State, left: u32) -> bool
     ensures { result ≡ either (settled state) (eqb left 0) }
 {
-    if idle(state) {
-        return true;
-    }
-    if moving(state) {
-        return true;
-    }
-    left == 0
+    idle(state) || moving(state) || left == 0
 }
 
 // What a wait that ends here hands back.
@@ -91,9 +72,8 @@ fn ended(given: u32, state: State) -> Ran
     ensures { result ≡
         record { end = end_at state; given = record { 0 = given }; state = state } }
 {
-    let end = end_at(state);
     Ran {
-        end,
+        end: end_at(state),
         given: Milliseconds(given),
         state,
     }
@@ -104,22 +84,20 @@ fn end_at(state: State) -> End
     ensures { result ≡ end_at state }
 {
     if idle(state) {
-        return End::Idle;
+        End::Idle
+    } else if moving(state) {
+        End::Moving
+    } else {
+        End::Spent
     }
-    if moving(state) {
-        return End::Moving;
-    }
-    End::Spent
 }
 
 // How many milliseconds of a delay remain.
 fn delay_remaining(running: Running) -> u32
     ensures { result ≡ delay_remaining running.remaining }
 {
-    let remaining = running.remaining;
-    match remaining {
-        Remaining::Nothing => 0,
-        Remaining::Counted(_) => 0,
+    match running.remaining {
+        Remaining::Nothing | Remaining::Counted(_) => 0,
         Remaining::Timed(delay) => delay.0,
     }
 }
@@ -128,20 +106,7 @@ fn delay_remaining(running: Running) -> u32
 fn lasting(running: Running, left: u32) -> u32
     ensures { result ≡ min (delay_remaining running.remaining - 1) left }
 {
-    let delay = delay_remaining(running);
-    if delay > 1 {
-        return lesser(delay - 1, left);
-    }
-    0
-}
-
-fn lesser(a: u32, b: u32) -> u32
-    ensures { result ≡ min a b }
-{
-    if a < b {
-        return a;
-    }
-    b
+    delay_remaining(running).saturating_sub(1).min(left)
 }
 
 // The running part after so many milliseconds of a delay.
@@ -152,29 +117,4 @@ fn counted_down(running: Running, given: u32) -> Running
 {
     let delay = delay_remaining(running);
     delaying(running, running.at_speed, Milliseconds(delay - given))
-}
-
-// Whether a change is left to a millisecond by value: those that a wait seldom meets.
-fn by_value(change: Change) -> bool
-    ensures { result ≡ by_value change }
-{
-    match change {
-        Change::Nothing => true,
-        Change::Advance(_, _) => false,
-        Change::Output(_, _, _) => false,
-        Change::Cam(_, _) => false,
-        Change::Position(_, _) => false,
-        Change::Delay(_, _) => false,
-        Change::Fault(_) => true,
-        Change::More => true,
-    }
-}
-
-// Sets an output, a flag or the motor current.
-fn set_output(outputs: &mut [bool; 14], place: u8, on: bool)
-    requires { place < 14 }
-    ensures { outputs.new ≡ set outputs.old place on }
-{
-    let k = place as usize;
-    outputs[k] = on;
 }

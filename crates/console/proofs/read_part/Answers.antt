@@ -3,20 +3,17 @@
 use native.Mathlib.Omega.{arith}
 use mathlib.Core.Path.{refl, ap}
 use lib.ListN.{length, length-take}
-use borrow.Author.Rules.{rules}
 use Rattle.console.proofs.Parts.{serves-exchanges, serves-nothing, read-front}
 use Rattle.console.proofs.read_part.Goals as goal
 
 pub returns-then-count-eq0 : goal.returns-then-count-eq0
 returns-then-count-eq0 g c =
-    let a = c.args in
-    serves-exchanges (serves-nothing a.drive a.string.now a.out.now a.n c.requires.servable.kept) refl
+    serves-exchanges (serves-nothing c.args.server.now) refl
 
 pub answer_part-requires : goal.answer_part-requires
 answer_part-requires g c =
-    let r = c.requires.servable in
     let size = length-take c.unwrap_or-count.result c.read.new.buf in
-    record { string = r.string; kept = r.kept; part = omega (arith, ap length c.front.ensures, size, r.part); room = r.room }
+    omega (arith, ap length c.front.ensures, size, c.requires.within)
 
 pub returns : goal.returns
 returns g c =

@@ -1,6 +1,6 @@
 -- `inputs_of` meets its contract: a turn stores one bit more.
 -- Assumes nothing.
-use Prim.Native.Nat.{◌≤◌, ◌<◌}
+use Prim.Native.Nat.{◌<◌}
 use native.Mathlib.Omega.{arith}
 use mathlib.Core.Path.{sym, ◌∙◌}
 use lib.ListN.{length, length-set}
@@ -8,20 +8,14 @@ use Rattle.machine.specs.InputWords.{inputs_of}
 use Rattle.inputs.proofs.Bits.{bits-turn, bits-end}
 use Rattle.inputs.proofs.inputs_of.Goals as goal
 
-pub loop-i-preserved : goal.loop-i-preserved
-loop-i-preserved c =
-    let l = c.loop-i.inputs in
-    let i = c.loop-i.i in
-    let inv = c.loop-i.invariant in
-    let h : i < 11 = omega arith in
+pub loop-input-preserved : goal.loop-input-preserved
+loop-input-preserved c =
+    let l = c.loop-input.input-items in
+    let i = c.loop-input.input-index in
+    let inv = c.loop-input.invariant in
     let g : i < length l = omega arith in
-    (omega arith, simp length-set inv.1, bits-turn l i c.loop-i.left h g ∙ inv.2)
+    (simp length-set inv.0, bits-turn l i c.loop-input.left c.loop-input-test.true g ∙ inv.1)
 
 pub returns : goal.returns
 unfolding inputs_of
-returns c =
-    let l = c.loop-i.inputs in
-    let i = c.loop-i.i in
-    let inv = c.loop-i.invariant in
-    let h : 11 ≤ i = omega arith in
-    sym (bits-end l i c.loop-i.left inv.1 h) ∙ inv.2
+returns c = sym (bits-end _ _ _ c.loop-input-test.array_long c.loop-input-test.false) ∙ c.loop-input.invariant.1

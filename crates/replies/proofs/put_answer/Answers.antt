@@ -1,7 +1,8 @@
 -- `put_answer` meets its contract: each arm is a clause of the definition.
 -- Assumes nothing.
+use mathlib.Core.Logic.{inl, inr}
 use Rattle.machine.specs.Answers.{answer_at}
-use Rattle.replies.proofs.Commands.{command-ready, preset-asked, input-asked, output-asked, cell-asked, fault-asked, suspended-asked}
+use Rattle.replies.proofs.Commands.{preset-asked, input-asked, output-asked, cell-asked}
 use Rattle.replies.proofs.Commands.{put-told}
 use Rattle.replies.proofs.put_answer.Goals as goal
 
@@ -20,38 +21,6 @@ put_output-requires c = output-asked _ c.requires c.in-AskOutput.is
 pub put_memory-requires : goal.put_memory-requires
 unfolding answer_at
 put_memory-requires c = cell-asked _ c.requires c.in-AskCell.is
-
-pub returns-in-Store : goal.returns-in-Store
-unfolding answer_at
-returns-in-Store c = put-told _ _ _ c.in-Store.is c.put_accepted.ensures
-
-pub returns-in-SetPreset : goal.returns-in-SetPreset
-unfolding answer_at
-returns-in-SetPreset c = put-told _ _ _ c.in-SetPreset.is c.put_accepted-in-SetPreset.ensures
-
-pub returns-in-Start : goal.returns-in-Start
-unfolding answer_at
-returns-in-Start c = put-told _ _ _ c.in-Start.is c.put_accepted-in-Start.ensures
-
-pub returns-in-EmergencyStop : goal.returns-in-EmergencyStop
-unfolding answer_at
-returns-in-EmergencyStop c = put-told _ _ _ c.in-EmergencyStop.is c.put_accepted-in-EmergencyStop.ensures
-
-pub returns-in-FreeRunStop : goal.returns-in-FreeRunStop
-unfolding answer_at
-returns-in-FreeRunStop c = put-told _ _ _ c.in-FreeRunStop.is c.put_accepted-in-FreeRunStop.ensures
-
-pub returns-in-SetPosition : goal.returns-in-SetPosition
-unfolding answer_at
-returns-in-SetPosition c = put-told _ _ _ c.in-SetPosition.is c.put_accepted-in-SetPosition.ensures
-
-pub returns-in-SetOutput : goal.returns-in-SetOutput
-unfolding answer_at
-returns-in-SetOutput c = put-told _ _ _ c.in-SetOutput.is c.put_accepted-in-SetOutput.ensures
-
-pub returns-in-SetCam : goal.returns-in-SetCam
-unfolding answer_at
-returns-in-SetCam c = put-told _ _ _ c.in-SetCam.is c.put_accepted-in-SetCam.ensures
 
 pub returns-in-AskPosition : goal.returns-in-AskPosition
 unfolding answer_at
@@ -88,3 +57,18 @@ returns-in-AskSuspended c = put-told _ _ _ c.in-AskSuspended.is c.put_suspended.
 pub returns-in-Wrong : goal.returns-in-Wrong
 unfolding answer_at
 returns-in-Wrong c = put-told _ _ _ c.in-Wrong.is c.put_rejected.ensures
+
+pub returns-in-Store : goal.returns-in-Store
+unfolding answer_at
+returns-in-Store c =
+    let done = c.put_accepted.ensures in
+    elim c.in-Store.is [
+      | inl w ↦ put-told _ _ _ w.2 done
+      | inr (inl w) ↦ put-told _ _ _ w.1 done
+      | inr (inr (inl w)) ↦ put-told _ _ _ w.1 done
+      | inr (inr (inr (inl w))) ↦ put-told _ _ _ w done
+      | inr (inr (inr (inr (inl w)))) ↦ put-told _ _ _ w done
+      | inr (inr (inr (inr (inr (inl w))))) ↦ put-told _ _ _ w.1 done
+      | inr (inr (inr (inr (inr (inr (inl w)))))) ↦ put-told _ _ _ w.2 done
+      | inr (inr (inr (inr (inr (inr (inr w)))))) ↦ put-told _ _ _ w.2 done
+    ]

@@ -2,15 +2,13 @@
 -- Assumes nothing.
 use native.Mathlib.Omega.{arith}
 use mathlib.Core.Path.{◌≡◌, refl, sym, ap, ◌∙◌}
-use mathlib.Core.List.{List}
-use mathlib.Core.Bool.{Bool}
 use lib.ListN.{length}
 use borrow.Author.Rules.{rules}
 use Prim.Native.Nat.{◌<◌}
-use Rattle.machine.specs.Record.{with_outputs, with_running}
+use Rattle.machine.specs.Record.{with_running}
 use Rattle.machine.proofs.Places.{place-sound, suspended-place, running-place}
-use Rattle.changes.proofs.Changing.{carried, place-known, place-within}
-use Rattle.waits.proofs.Carried.{millisecond-placed, changed-step, carried-alone}
+use Rattle.changes.proofs.Changing.{place-within}
+use Rattle.waits.proofs.Carried.{millisecond-placed, changed-step}
 use Rattle.waits.proofs.Waits.{ran_over, waiting-start, waiting-going, waiting-step, waiting-skip}
 use Rattle.waits.proofs.wait.Goals as goal
 
@@ -33,7 +31,7 @@ pub loop-cells-preserved-then-given-gt0 : goal.loop-cells-preserved-then-given-g
 loop-cells-preserved-then-given-gt0 c =
     let l = c.lasting-given.ensures in
     let g = waiting-going c.loop-cells.invariant (sym c.is_over.ensures ∙ c.if-is_over.false) in
-    waiting-skip g refl (omega (arith, l)) (omega (arith, l, g.room)) (ap (with_running c.loop-cells.d) c.counted_down-running.ensures)
+    waiting-skip g refl (omega (arith, l)) (omega (arith, l, g.room)) (ap (with_running c.loop-cells.d) c.counted_down-d.ensures)
 
 -- the cell that is taken
 pub offset_bounds-cells-place : goal.offset_bounds-cells-place
@@ -42,8 +40,8 @@ offset_bounds-cells-place c = omega (arith, running-place _ _ c.loop-cells.invar
 pub bounds-cells-place : goal.bounds-cells-place
 bounds-cells-place c = running-place _ _ c.loop-cells.invariant.parts.running c.place.ensures
 
-pub change_at-change-requires : goal.change_at-change-requires
-change_at-change-requires c = place-sound _ _ c.loop-cells.invariant.memory.sound
+pub next_change-change-requires : goal.next_change-change-requires
+next_change-change-requires c = place-sound _ _ c.loop-cells.invariant.memory.sound
 
 pub overflow_add-n-in-loop-cells : goal.overflow_add-n-in-loop-cells
 overflow_add-n-in-loop-cells c =
@@ -51,69 +49,33 @@ overflow_add-n-in-loop-cells c =
     omega (arith, g.waiting.fits, g.room)
 
 -- a change by value
-pub offset_bounds-cells-place-then-by_value : goal.offset_bounds-cells-place-then-by_value
-offset_bounds-cells-place-then-by_value c =
-    omega (arith, suspended-place _ _ c.loop-cells.invariant.parts.suspended c.place-then-by_value.ensures)
+pub offset_bounds-cells-place-then-is_more : goal.offset_bounds-cells-place-then-is_more
+offset_bounds-cells-place-then-is_more c =
+    omega (arith, suspended-place _ _ c.loop-cells.invariant.parts.suspended c.place-then-is_more.ensures)
 
-pub bounds-cells-place-then-by_value : goal.bounds-cells-place-then-by_value
-bounds-cells-place-then-by_value c = suspended-place _ _ c.loop-cells.invariant.parts.suspended c.place-then-by_value.ensures
+pub bounds-cells-place-then-is_more : goal.bounds-cells-place-then-is_more
+bounds-cells-place-then-is_more c = suspended-place _ _ c.loop-cells.invariant.parts.suspended c.place-then-is_more.ensures
 
 pub millisecond-d-requires : goal.millisecond-d-requires
 millisecond-d-requires c =
     let s = c.loop-cells.invariant.memory.sound in
     (place-sound _ _ s, place-sound _ _ s)
 
-pub loop-cells-smaller-then-by_value : goal.loop-cells-smaller-then-by_value
-loop-cells-smaller-then-by_value c =
+pub loop-cells-smaller-then-is_more : goal.loop-cells-smaller-then-is_more
+loop-cells-smaller-then-is_more c =
     let g = waiting-going c.loop-cells.invariant (sym c.is_over.ensures ∙ c.if-is_over.false) in
     omega (arith, g.room)
 
-pub loop-cells-preserved-then-by_value : goal.loop-cells-preserved-then-by_value
-loop-cells-preserved-then-by_value c =
+pub loop-cells-preserved-then-is_more : goal.loop-cells-preserved-then-is_more
+loop-cells-preserved-then-is_more c =
     let g = waiting-going c.loop-cells.invariant (sym c.is_over.ensures ∙ c.if-is_over.false) in
-    let m = millisecond-placed c.args.cells c.loop-cells.d c.place.ensures c.place-then-by_value.ensures in
+    let m = millisecond-placed c.args.cells c.loop-cells.d c.place.ensures c.place-then-is_more.ensures in
     waiting-step g (c.millisecond-d.ensures ∙ m)
 
--- a change in place: an output, the cam, the position, and no other part
-pub set_output-requires : goal.set_output-requires
-set_output-requires c =
-    let p = place-within c.loop-cells.d _ c.change_at-change.ensures (place-sound _ _ c.loop-cells.invariant.memory.sound) in
-    place-known _ c.in-Output.is p
-
-pub loop-cells-smaller-in-Output : goal.loop-cells-smaller-in-Output
-loop-cells-smaller-in-Output c =
-    let g = waiting-going c.loop-cells.invariant (sym c.is_over.ensures ∙ c.if-is_over.false) in
-    omega (arith, g.room)
-
-pub loop-cells-preserved-in-Output : goal.loop-cells-preserved-in-Output
-loop-cells-preserved-in-Output c =
-    let d = c.loop-cells.d in
-    let g = waiting-going c.loop-cells.invariant (sym c.is_over.ensures ∙ c.if-is_over.false) in
-    let o = ap (λ (o : List Bool). with_running (with_outputs d o) c.running_after-running.result) c.set_output.ensures in
-    changed-step g c.place.ensures c.change_at-change.ensures (sym c.by_value.ensures ∙ c.if-by_value.false)
-    (o ∙ carried d c.in-Output.is c.running_after-running.ensures)
-
-pub loop-cells-smaller-in-Cam : goal.loop-cells-smaller-in-Cam
-loop-cells-smaller-in-Cam c =
-    let g = waiting-going c.loop-cells.invariant (sym c.is_over.ensures ∙ c.if-is_over.false) in
-    omega (arith, g.room)
-
-pub loop-cells-preserved-in-Cam : goal.loop-cells-preserved-in-Cam
-loop-cells-preserved-in-Cam c =
-    let g = waiting-going c.loop-cells.invariant (sym c.is_over.ensures ∙ c.if-is_over.false) in
-    changed-step g c.place.ensures c.change_at-change.ensures (sym c.by_value.ensures ∙ c.if-by_value.false)
-    (carried c.loop-cells.d c.in-Cam.is c.running_after-running.ensures)
-
-pub loop-cells-smaller-in-Position : goal.loop-cells-smaller-in-Position
-loop-cells-smaller-in-Position c =
-    let g = waiting-going c.loop-cells.invariant (sym c.is_over.ensures ∙ c.if-is_over.false) in
-    omega (arith, g.room)
-
-pub loop-cells-preserved-in-Position : goal.loop-cells-preserved-in-Position
-loop-cells-preserved-in-Position c =
-    let g = waiting-going c.loop-cells.invariant (sym c.is_over.ensures ∙ c.if-is_over.false) in
-    changed-step g c.place.ensures c.change_at-change.ensures (sym c.by_value.ensures ∙ c.if-by_value.false)
-    (carried c.loop-cells.d c.in-Position.is c.running_after-running.ensures)
+-- a change in place
+pub carry_out-requires : goal.carry_out-requires
+carry_out-requires c =
+    place-within c.loop-cells.d _ c.next_change-change.ensures (place-sound _ _ c.loop-cells.invariant.memory.sound)
 
 pub loop-cells-smaller : goal.loop-cells-smaller
 loop-cells-smaller c =
@@ -123,7 +85,4 @@ loop-cells-smaller c =
 pub loop-cells-preserved : goal.loop-cells-preserved
 loop-cells-preserved c =
     let g = waiting-going c.loop-cells.invariant (sym c.is_over.ensures ∙ c.if-is_over.false) in
-    let n = c.in_default in
-    let b = sym c.by_value.ensures ∙ c.if-by_value.false in
-    changed-step g c.place.ensures c.change_at-change.ensures b
-    (carried-alone c.change_at-change.result c.loop-cells.d b n.not-Output n.not-Cam n.not-Position c.running_after-running.ensures)
+    changed-step g c.place.ensures c.next_change-change.ensures (sym c.is_more.ensures ∙ c.if-is_more.false) c.carry_out.ensures

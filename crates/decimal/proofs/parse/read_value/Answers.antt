@@ -1,42 +1,26 @@
--- Invariant: the value so far, continued over the bytes left, is the value of the field; it is below the power of the place. Measure: the bytes left.
+-- Each byte is a digit or ends the reading; then the value is converted to 32 bits.
 -- Assumes nothing.
-use Prim.Native.Nat.{◌-◌, ◌^◌}
-use native.Mathlib.Omega.{arith}
-use mathlib.Core.Path.{◌∙◌, sym}
-use lib.ListN.{get_or}
-use borrow.Author.Tests.{lt-ltb, le-ltb}
-use Rattle.laws.proofs.Tests.{choose-true, choose-false}
-use Rattle.decimal.proofs.Turns.{value-below, value_low, value-high, value-next, value-end}
+use Rattle.std.proofs.Common.{◌∙◌, ◌-◌, get_or, sym, arith}
+use Rattle.decimal.proofs.Turns.{value-below, value-bad, value-next, value-end, value_fits}
 use Rattle.decimal.proofs.parse.read_value.Goals as goal
 
-pub returns-then-b-lt48 : goal.returns-then-b-lt48
-returns-then-b-lt48 c =
-    let l = c.loop-i in
-    let s = c.args.s.now in
-    sym (l.invariant.1.1 ∙ value_low l.value s l.i (omega arith) c.if-b-lt48.true)
+pub returns-then-not-is_ascii_digit : goal.returns-then-not-is_ascii_digit
+returns-then-not-is_ascii_digit c =
+    let l = c.loop-b in
+    sym (l.invariant.same ∙ value-bad l.value c.args.s.now l.b-index (omega arith) c.if-not-is_ascii_digit.ensures.cases)
 
-pub returns-then-b-gt57 : goal.returns-then-b-gt57
-returns-then-b-gt57 c =
-    let l = c.loop-i in
+pub loop-b-preserved : goal.loop-b-preserved
+loop-b-preserved c =
+    let l = c.loop-b in
     let s = c.args.s.now in
-    sym (l.invariant.1.1 ∙ value-high l.value s l.i (omega arith) (omega arith) c.if-b-gt57.true)
-
-pub loop-i-preserved : goal.loop-i-preserved
-loop-i-preserved c =
-    let l = c.loop-i in
-    let s = c.args.s.now in
-    let below = value-below l.value l.i (get_or s l.i 0 - 48) l.invariant.1.0 (omega arith) in
-    let same = value-next l.value s l.i (omega arith) (omega arith) (omega arith) in
-    (omega arith, (below, l.invariant.1.1 ∙ same))
-
-pub returns-then-value-gt4294967295 : goal.returns-then-value-gt4294967295
-returns-then-value-gt4294967295 c =
-    let l = c.loop-i in
-    let s = c.args.s.now in
-    sym (l.invariant.1.1 ∙ value-end l.value s l.i (omega arith) ∙ choose-false _ _ _ (le-ltb l.value (2 ^ 32) (omega arith)))
+    let digit = c.if-not-is_ascii_digit.ensures.cases in
+    let below = value-below l.value l.b-index (get_or s l.b-index 0 - 48) l.invariant.below (omega arith) in
+    let same = value-next l.value s l.b-index (omega arith) digit.0 digit.1 in
+    record { below = below; same = l.invariant.same ∙ same }
 
 pub returns : goal.returns
 returns c =
-    let l = c.loop-i in
+    let l = c.loop-b in
     let s = c.args.s.now in
-    sym (l.invariant.1.1 ∙ value-end l.value s l.i (omega arith) ∙ choose-true _ _ _ (lt-ltb l.value (2 ^ 32) (omega arith)))
+    c.ok.ensures.value ∙ value_fits l.value _ c.try_from.ensures
+    ∙ sym (l.invariant.same ∙ value-end l.value s l.b-index (omega arith))

@@ -18,26 +18,26 @@ passed {n} j g low u v eu ev eg h below above =
     (width-past j 4 g low u v n (get_or powers u 0) eu ev eg (power_at u (omega arith)) below
     ∙ width-here g v n (get_or powers v 0) (power_at v h) above)
 
-pub returns-then-n-powers-2 : goal.returns-then-n-powers-2
-returns-then-n-powers-2 c =
+pub returns-then-n-low-2 : goal.returns-then-n-low-2
+returns-then-n-low-2 c =
     let n = c.args.n in
     let low = c.args.low in
-    sym (width-here 4 low n (get_or powers low 0) (power_at low (omega arith)) c.if-n-powers-2.true)
+    sym (width-here 4 low n (get_or powers low 0) (power_at low (omega arith)) c.if-n-low-2.true)
 
-pub returns-then-n-powers : goal.returns-then-n-powers
-returns-then-n-powers c =
+pub returns-then-n-low : goal.returns-then-n-low
+returns-then-n-low c =
     let low = c.args.low in
-    passed 0 3 low low (low + 1) (omega arith) (omega arith) refl (omega arith) c.if-n-powers-2.false c.if-n-powers.true
+    passed 0 3 low low (low + 1) (omega arith) (omega arith) refl (omega arith) c.if-n-low-2.false c.if-n-low.true
 
-pub returns-then-n-powers-3 : goal.returns-then-n-powers-3
-returns-then-n-powers-3 c =
+pub returns-then-n-low-3 : goal.returns-then-n-low-3
+returns-then-n-low-3 c =
     let low = c.args.low in
-    passed 1 2 low (low + 1) (low + 2) (omega arith) (omega arith) refl (omega arith) c.if-n-powers.false c.if-n-powers-3.true
+    passed 1 2 low (low + 1) (low + 2) (omega arith) (omega arith) refl (omega arith) c.if-n-low.false c.if-n-low-3.true
 
-pub returns-then-n-powers-4 : goal.returns-then-n-powers-4
-returns-then-n-powers-4 c =
+pub returns-then-n-low-4 : goal.returns-then-n-low-4
+returns-then-n-low-4 c =
     let low = c.args.low in
-    passed 2 1 low (low + 2) (low + 3) (omega arith) (omega arith) refl (omega arith) c.if-n-powers-3.false c.if-n-powers-4.true
+    passed 2 1 low (low + 2) (low + 3) (omega arith) (omega arith) refl (omega arith) c.if-n-low-3.false c.if-n-low-4.true
 
 pub returns : goal.returns
 unfolding width_from
@@ -46,4 +46,4 @@ returns c =
     let low = c.args.low in
     sym
     (width-past 3 4 0 low (low + 3) (low + 4) n (get_or powers (low + 3) 0) (omega arith) (omega arith) (omega arith) (power_at (low + 3) (omega arith))
-    c.if-n-powers-4.false)
+    c.if-n-low-4.false)

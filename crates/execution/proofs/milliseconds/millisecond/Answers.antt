@@ -23,8 +23,8 @@ changed-requires c =
     let a = c in
     place-within a.args.state a.args.cell c.next_change-change.ensures a.requires.0
 
-pub returns : goal.returns
-returns c =
+pub returns-else-is_more : goal.returns-else-is_more
+returns-else-is_more c =
     let a = c in
     let i = sym c.idle.ensures ∙ c.if-idle.false in
     let m = sym c.is_more.ensures ∙ c.if-is_more.false in

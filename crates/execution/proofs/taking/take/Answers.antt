@@ -8,7 +8,7 @@ pub changed-requires : goal.changed-requires
 changed-requires c =
     taken-within c.args.state c.args.cell c.taken_change-change.ensures c.requires
 
-pub returns : goal.returns
-returns c =
+pub returns-else-is_more : goal.returns-else-is_more
+returns-else-is_more c =
     let t = sym c.is_more.ensures ∙ c.if-is_more.false in
     c.changed.ensures ∙ taken-changed c.args.state c.args.cell c.taken_change-change.ensures t

@@ -1,4 +1,4 @@
--- `fields::kinds::put_field` meets its contract: each kind by its own writer. What a writer asks follows from good and valid.
+-- Each kind by its own writer. What a writer asks follows from good and valid.
 -- Assumes nothing.
 use Prim.Native.Nat.{ℕ, ◌+◌, ◌≤◌, ◌<◌}
 use native.Mathlib.Omega.{arith}
@@ -57,26 +57,26 @@ put_signed-requires-in-Optional c =
     let v = c.args.v in
     fits _ _ (print-same v c.in-Optional.is) c.requires.room
 
-pub put_byte-requires : goal.put_byte-requires
-put_byte-requires c =
+pub put_bytes-requires : goal.put_bytes-requires
+put_bytes-requires c =
     let v = c.args.v in
     let e = c.in-Sign.is in
     fits _ _ (print-same v e ∙ print-plus v c.if-v-eq0.true) c.requires.room
 
-pub put_byte-requires-else-v-eq0 : goal.put_byte-requires-else-v-eq0
-put_byte-requires-else-v-eq0 c =
+pub put_bytes-requires-in-Sign-2 : goal.put_bytes-requires-in-Sign-2
+put_bytes-requires-in-Sign-2 c =
     let v = c.args.v in
     let e = c.in-Sign.is in
     fits _ _ (print-same v e ∙ print-minus v c.if-v-eq0.false) c.requires.room
 
-pub put_pair-requires : goal.put_pair-requires
-put_pair-requires c =
+pub put_bytes-requires-in-Multiplier : goal.put_bytes-requires-in-Multiplier
+put_bytes-requires-in-Multiplier c =
     let v = c.args.v in
     let e = c.in-Multiplier.is in
     fits _ _ (print-same v e ∙ print-one v c.if-v-eq0-2.true) c.requires.room
 
-pub put_pair-requires-else-v-eq0-2 : goal.put_pair-requires-else-v-eq0-2
-put_pair-requires-else-v-eq0-2 c =
+pub put_bytes-requires-in-Multiplier-2 : goal.put_bytes-requires-in-Multiplier-2
+put_bytes-requires-in-Multiplier-2 c =
     let v = c.args.v in
     let e = c.in-Multiplier.is in
     fits _ _ (print-same v e ∙ print-four v c.if-v-eq0-2.false) c.requires.room
@@ -122,29 +122,29 @@ returns-in-Optional c =
     let v = c.args.v in
     put_as (sym (print-same v c.in-Optional.is)) c.put_signed-in-Optional.ensures
 
-pub returns-then-v-eq0 : goal.returns-then-v-eq0
-returns-then-v-eq0 c =
+pub returns-in-Sign : goal.returns-in-Sign
+returns-in-Sign c =
     let v = c.args.v in
     let e = c.in-Sign.is in
-    put_as (sym (print-same v e ∙ print-plus v c.if-v-eq0.true)) c.put_byte.ensures
+    put_as (sym (print-same v e ∙ print-plus v c.if-v-eq0.true)) c.put_bytes.ensures
 
-pub returns-else-v-eq0 : goal.returns-else-v-eq0
-returns-else-v-eq0 c =
+pub returns-in-Sign-2 : goal.returns-in-Sign-2
+returns-in-Sign-2 c =
     let v = c.args.v in
     let e = c.in-Sign.is in
-    put_as (sym (print-same v e ∙ print-minus v c.if-v-eq0.false)) c.put_byte-else-v-eq0.ensures
+    put_as (sym (print-same v e ∙ print-minus v c.if-v-eq0.false)) c.put_bytes-in-Sign-2.ensures
 
-pub returns-then-v-eq0-2 : goal.returns-then-v-eq0-2
-returns-then-v-eq0-2 c =
+pub returns-in-Multiplier : goal.returns-in-Multiplier
+returns-in-Multiplier c =
     let v = c.args.v in
     let e = c.in-Multiplier.is in
-    put_as (sym (print-same v e ∙ print-one v c.if-v-eq0-2.true)) c.put_pair.ensures
+    put_as (sym (print-same v e ∙ print-one v c.if-v-eq0-2.true)) c.put_bytes-in-Multiplier.ensures
 
-pub returns-else-v-eq0-2 : goal.returns-else-v-eq0-2
-returns-else-v-eq0-2 c =
+pub returns-in-Multiplier-2 : goal.returns-in-Multiplier-2
+returns-in-Multiplier-2 c =
     let v = c.args.v in
     let e = c.in-Multiplier.is in
-    put_as (sym (print-same v e ∙ print-four v c.if-v-eq0-2.false)) c.put_pair-else-v-eq0-2.ensures
+    put_as (sym (print-same v e ∙ print-four v c.if-v-eq0-2.false)) c.put_bytes-in-Multiplier-2.ensures
 
 pub returns-in-Name : goal.returns-in-Name
 unfolding print_field

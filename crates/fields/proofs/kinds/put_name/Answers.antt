@@ -1,9 +1,6 @@
--- `fields::kinds::put_name` meets its contract: the high byte and what it leaves of the name are its two letters.
+-- The high byte and what it leaves of the name are its two letters.
 -- Assumes nothing.
-use Prim.Native.Nat.{ℕ, ◌-◌, ◌*◌, ◌/◌, ◌%◌}
-use native.Mathlib.Omega.{arith}
-use mathlib.Core.Path.{◌≡◌, ap}
-use mathlib.Core.List.{[], ◌∷◌}
+use Rattle.std.proofs.Common.{◌≡◌, ℕ, ◌-◌, ◌*◌, ◌/◌, ◌%◌, [], ◌∷◌, ap, arith}
 use Rattle.laws.proofs.Writing.{put_as}
 use Rattle.fields.specs.Kinds.{letters_of}
 use Rattle.fields.proofs.kinds.put_name.Goals as goal
@@ -15,4 +12,4 @@ letters x =
     ap (λ (b : ℕ). x / 256 ∷ b ∷ []) low
 
 pub returns : goal.returns
-returns c = put_as (letters c.args.x) c.put_pair.ensures
+returns c = put_as (letters c.args.x) c.put_bytes.ensures

@@ -1,30 +1,28 @@
--- `fields::names::find` meets its contract.
--- Invariant: the place in the names left, counted on from the turns made, is the place in the whole list. Measure: the names left.
+-- A list has at most 16 names; each turn looks at the name of its place.
 -- Assumes nothing.
-use native.Mathlib.Omega.{arith}
-use mathlib.Core.Path.{◌∙◌, sym}
-use Rattle.fields.specs.Names.{list_of}
+use Rattle.std.proofs.Common.{◌∙◌, ℕ, List, length, ap, sym, arith}
+use Rattle.fields.specs.Names.{place_from}
 use Rattle.fields.proofs.Turns.{length-list_of, place_here, place-next, place_end}
 use Rattle.fields.proofs.names.find.Goals as goal
 
-pub returns-then-x-name : goal.returns-then-x-name
-returns-then-x-name c =
-    let a = c.args in
-    let l = c.loop-i in
-    sym (l.invariant.1.1.1 ∙ place_here (list_of a.names) l.i l.place a.x (omega arith) (c.if-x-name.true ∙ c.name.ensures))
+pub overflow_cast-result : goal.overflow_cast-result
+overflow_cast-result c = omega (arith, ap length c.list-name-items.ensures, length-list_of c.args.names)
 
-pub overflow_add-place : goal.overflow_add-place
-overflow_add-place c = omega (arith, length-list_of c.args.names)
+pub returns-then-name-x : goal.returns-then-name-x
+returns-then-name-x c =
+    let x = c.args.x in
+    let l = c.loop-place in
+    let whole = ap (λ (ns : List ℕ). place_from ns 0 x) c.list-name-items.ensures in
+    sym (sym whole ∙ l.invariant ∙ place_here _ l.place l.place x (omega arith) (sym c.if-name-x.true))
 
-pub loop-i-preserved : goal.loop-i-preserved
-loop-i-preserved c =
-    let a = c.args in
-    let l = c.loop-i in
-    let f = place-next (list_of a.names) l.i l.place a.x (omega arith) (λ e. c.if-x-name.false (e ∙ sym c.name.ensures)) in
-    (l.invariant.0, (omega arith, (omega arith, l.invariant.1.1.1 ∙ f)))
+pub loop-place-preserved : goal.loop-place-preserved
+loop-place-preserved c =
+    let l = c.loop-place in
+    l.invariant ∙ place-next _ l.place l.place c.args.x (omega arith) (λ e. c.if-name-x.false (sym e))
 
 pub returns : goal.returns
 returns c =
-    let a = c.args in
-    let l = c.loop-i in
-    sym (l.invariant.1.1.1 ∙ place_end (list_of a.names) l.i l.place a.x (omega arith))
+    let x = c.args.x in
+    let l = c.loop-place in
+    let whole = ap (λ (ns : List ℕ). place_from ns 0 x) c.list-name-items.ensures in
+    sym (sym whole ∙ l.invariant ∙ place_end _ l.place l.place x (omega arith))

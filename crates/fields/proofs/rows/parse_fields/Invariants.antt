@@ -1,15 +1,12 @@
--- Invariant: the fields left, parsed from the place reached, give the whole result, and the reader stands at that place of the string. Measure: the
--- fields left.
+-- Invariant: the fields left, parsed from the reader's place, give the whole result; the reader stands in the string.
 -- Assumes nothing.
-use Rattle.std.proofs.Common.{◌≡◌, ◌-◌, ◌≤◌}
-use Rattle.fields.specs.Rows.{kinds, parse_fields}
-use Rattle.fields.proofs.Turns.{onward}
+use Rattle.std.proofs.Common.{◌≡◌, length, drop}
+use Rattle.fields.specs.Rows.{fields_from, parse_fields}
 use Rattle.fields.proofs.rows.parse_fields.Given as goal
 
 abbrev pub invariant-loop-i : goal.invariant-loop-i
-invariant-loop-i l =
-    (l.i ≤ l.row.count) × ((l.reader.src.now ≡ l.s) × ((l.reader.at ≡ l.parsed.at)
-    × (parse_fields (kinds l.row) l.s l.from ≡ onward (kinds l.row) l.s l.i l.parsed)))
-
-abbrev pub decreases-loop-i : goal.decreases-loop-i
-decreases-loop-i l = l.row.count - l.i
+invariant-loop-i l = record {
+  string : l.reader.src.now ≡ l.s;
+  six : length l.values ≡ 6;
+  same : parse_fields l.kinds l.s l.from ≡ fields_from (drop l.i l.kinds) l.s l.reader.at l.i l.values;
+}

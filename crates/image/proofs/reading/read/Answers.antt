@@ -1,24 +1,16 @@
--- `read` meets its contract: by the presets' row, and by the cells that go with it.
 -- Assumes nothing.
-use mathlib.Core.Path.{sym, ap, ◌∙◌}
-use borrow.Author.Tests.{not-true, not-false}
-use Rattle.image.specs.Results.{handed}
-use Rattle.image.proofs.ReadingSteps.{presets-none, presets-other, presets-given, told_same}
-use borrow.Author.Rules.{rules}
+use mathlib.Core.Path.{◌≡◌, ◌∙◌, refl, ap}
+use Rattle.std.specs.Prelude.{Option, Some, None}
+use Rattle.std.specs.Option.{ok_or}
+use Rattle.drive.specs.declared.Drive.{Drive}
+use Rattle.image.specs.Results.{made_of, loaded_as, number_of}
+use Rattle.image.specs.declared.results.Refusal.TheVariants.{NotAnImage}
 use Rattle.image.proofs.reading.read.Goals as goal
 
-pub returns-in_default : goal.returns-in_default
-returns-in_default c =
-    c.refused.ensures ∙ ap handed (sym (presets-none _ _ _ c.read_row-first.ensures c.in_default.is))
-
-pub returns-then-not-same_numbers : goal.returns-then-not-same_numbers
-returns-then-not-same_numbers c =
-    let other = told_same _ _ _ _ _ c.presets_from-presets.ensures c.preset_numbers.ensures c.same_numbers.ensures c.if-not-same_numbers.true in
-    c.refused-then-not-same_numbers.ensures ∙ ap handed (sym (presets-other _ _ _ c.read_row-first.ensures _ c.in-At.is other))
+refused_by_10 : (o : Option Drive) → loaded_as (ok_or o NotAnImage) ≡ made_of o
+unfolding made_of loaded_as number_of
+refused_by_10 None = refl
+refused_by_10 (Some d) = refl
 
 pub returns : goal.returns
-returns c =
-    let own = told_same _ _ _ _ _ c.presets_from-presets.ensures c.preset_numbers.ensures c.same_numbers.ensures c.if-not-same_numbers.false in
-    let read = c.read_row-first.ensures in
-    c.with_cells.ensures
-    ∙ ap handed (presets-given _ _ _ read _ _ c.in-At.is c.presets_from-presets.ensures own)
+returns c = ap loaded_as c.ok_or.ensures.value ∙ refused_by_10 _ ∙ c.drive_of.ensures

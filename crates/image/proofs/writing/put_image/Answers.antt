@@ -1,7 +1,6 @@
 -- `put_image` meets its contract: the presets' row, then the cells.
 -- Assumes nothing.
 use Rattle.image.proofs.WritingSteps.{presets-writable, cells-writable, image-put}
-use borrow.Author.Rules.{rules}
 use Rattle.image.proofs.writing.put_image.Goals as goal
 
 pub put_row-at-requires : goal.put_row-at-requires

@@ -4,10 +4,8 @@ use native.Mathlib.Omega.{arith}
 use mathlib.Core.Path.{sym, ◌∙◌}
 use lib.ListN.{length-take}
 use lib.Seq.{length-take-le}
-use borrow.Author.Tests.{not-true, not-false}
 use Rattle.image.specs.Results.{number_of, written_as}
 use Rattle.image.proofs.WritingSteps.{image-most, written-unsound, buffer-refused, put-short, put_whole, put-copied}
-use borrow.Author.Rules.{rules}
 use Rattle.image.proofs.writing.write.Goals as goal
 
 pub returns-then-not-sound : goal.returns-then-not-sound

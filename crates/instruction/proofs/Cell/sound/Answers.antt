@@ -2,6 +2,7 @@
 -- Assumes nothing.
 use mathlib.Core.Path.{◌≡◌, sym, ap, ◌∙◌}
 use mathlib.Core.Bool.{Bool}
+use mathlib.Core.Logic.{⊎_elim}
 use Rattle.laws.specs.Tests.{choose}
 use Rattle.units.specs.declared.CellAddress.{CellAddress}
 use Rattle.instruction.specs.declared.Instruction.{Instruction}
@@ -92,10 +93,6 @@ returns-in-OutputSetting c =
     let w = c.in-OutputSetting in
     told _ w.is (row-one-value _ _ _ w.on (settable-valid _) c.is_next-linked.ensures)
 
-pub returns-in-CounterReset : goal.returns-in-CounterReset
-unfolding opened
-returns-in-CounterReset c = told _ c.in-CounterReset.is (row_next _ c.is_next-linked.ensures)
-
 pub returns-in-OpeningLoop : goal.returns-in-OpeningLoop
 unfolding opened
 returns-in-OpeningLoop c = told _ c.in-OpeningLoop.is (row_one _ _ _ (count-valid _ _ _) c.is_next-linked.ensures)
@@ -116,11 +113,9 @@ returns-in-TimeDelay c = told _ c.in-TimeDelay.is (row_one _ _ _ (upto-valid _ _
 
 pub returns-in-CurrentSetting : goal.returns-in-CurrentSetting
 unfolding opened
-returns-in-CurrentSetting c = let w = c.in-CurrentSetting in told _ w.is (row-value w.on _ c.is_next-linked.ensures)
-
-pub returns-in-Null : goal.returns-in-Null
-unfolding opened
-returns-in-Null c = told _ c.in-Null.is (row_next _ c.is_next-linked.ensures)
+returns-in-CurrentSetting c =
+    let l = c.is_next-linked.ensures in
+    ⊎_elim (λ w. told _ w.1 (row-value w.0 _ l)) (⊎_elim (λ e. told _ e (row_next _ l)) (λ e. told _ e (row_next _ l))) c.in-CurrentSetting.is
 
 pub returns-in-Recovery : goal.returns-in-Recovery
 unfolding opened

@@ -3,6 +3,7 @@
 use Prim.Native.Nat.{ℕ}
 use mathlib.Core.Path.{◌≡◌, refl, ap, ◌∙◌}
 use mathlib.Core.Bool.{Bool}
+use mathlib.Core.Logic.{⊎_elim}
 use mathlib.Core.List.{List}
 use lib.ListN.{length, get_or}
 use borrow.Author.Rules.{rules}
@@ -20,19 +21,13 @@ arm v n e h = told (λ (k : ℕ). holds k v) e (h ∙ ap (holds _) (six-list v n
 
 pub returns-in-1 : goal.returns-in-1
 unfolding holds
-returns-in-1 c = arm _ c.told-v c.in-1.is (row-01 _ _ _ _ _ _ (c.fits-v 2))
-
-pub returns-in-31 : goal.returns-in-31
-unfolding holds
-returns-in-31 c = arm _ c.told-v c.in-31.is (row-31 _ _ _ _ _ _ (c.fits-v 2))
+returns-in-1 c =
+    ⊎_elim (λ e. arm _ c.told-v e (row-01 _ _ _ _ _ _ (c.fits-v 2))) (λ e. arm _ c.told-v e (row-31 _ _ _ _ _ _ (c.fits-v 2))) c.in-1.is
 
 pub returns-in-2 : goal.returns-in-2
 unfolding holds
-returns-in-2 c = arm _ c.told-v c.in-2.is (row-02 _ _ _ _ _ _)
-
-pub returns-in-32 : goal.returns-in-32
-unfolding holds
-returns-in-32 c = arm _ c.told-v c.in-32.is (row-32 _ _ _ _ _ _)
+returns-in-2 c =
+    ⊎_elim (λ e. arm _ c.told-v e (row-02 _ _ _ _ _ _)) (λ e. arm _ c.told-v e (row-32 _ _ _ _ _ _)) c.in-2.is
 
 pub returns-in-11 : goal.returns-in-11
 unfolding holds

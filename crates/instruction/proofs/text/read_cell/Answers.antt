@@ -1,33 +1,26 @@
 -- The code's row, then the row of that code, to the end of the string.
 -- Assumes nothing.
-use mathlib.Core.Path.{◌∙◌, ap, sym}
-use borrow.Author.Tests.{not-true, not-false}
-use Rattle.instruction.specs.declared.text.Sent.TheVariants.{Held}
-use Rattle.format.proofs.Entries.{few-format}
-use Rattle.instruction.proofs.TextSteps.{code_read, code-wrong, code-unknown, code-known, fields-wrong, fields-held}
+use Rattle.std.proofs.Common.{◌∙◌, Some, ap, sym}
+use Rattle.instruction.proofs.TextSteps.{code-wrong, code-unknown, fields-wrong, fields-held, few-format}
 use Rattle.instruction.proofs.text.read_cell.Goals as goal
 
-pub returns-then-not-first : goal.returns-then-not-first
-returns-then-not-first c =
-    sym (code_read _ _ _ _ c.code_row.ensures c.parse_fields-first.ensures ∙ code-wrong _ _ c.if-not-first.true)
+pub returns-in_err-first : goal.returns-in_err-first
+returns-in_err-first c = c.from_residual.ensures ∙ code-wrong _ _ (sym c.in_err-first.was ∙ c.parse_fields.ensures)
 
-pub returns-then-not-format : goal.returns-then-not-format
-returns-then-not-format c =
-    sym (code_read _ _ _ _ c.code_row.ensures c.parse_fields-first.ensures
-    ∙ code-unknown _ _ _ c.if-not-first.false c.format_of-format.ensures (not-true _ c.if-not-format.true))
+pub returns-in_err-format_of : goal.returns-in_err-format_of
+returns-in_err-format_of c =
+    c.from_residual-in_err-format_of.ensures
+    ∙ code-unknown _ _ _ (sym c.in_ok-first.was ∙ c.parse_fields.ensures) c.in_err-format_of.ensures
 
-pub parse_all-rest-requires : goal.parse_all-rest-requires
-parse_all-rest-requires c = few-format _ c.format_of-format.ensures
+pub parse_all-requires : goal.parse_all-requires
+parse_all-requires c = few-format _ c.in_ok-format_of.ensures
 
-pub returns-then-not-rest : goal.returns-then-not-rest
-returns-then-not-rest c =
-    sym (code_read _ _ _ _ c.code_row.ensures c.parse_fields-first.ensures
-    ∙ code-known _ _ _ _ c.if-not-first.false c.format_of-format.ensures (not-false _ c.if-not-format.false) c.parse_all-rest.ensures
-    ∙ fields-wrong _ _ (not-true _ c.if-not-rest.true))
+pub returns-in_err-rest : goal.returns-in_err-rest
+returns-in_err-rest c =
+    c.from_residual-in_err-rest.ensures
+    ∙ fields-wrong _ _ _ (sym c.in_ok-first.was ∙ c.parse_fields.ensures) c.in_ok-format_of.ensures (sym c.in_err-rest.was ∙ c.parse_all.ensures)
 
 pub returns : goal.returns
 returns c =
-    ap Held c.cell_of.ensures
-    ∙ sym (code_read _ _ _ _ c.code_row.ensures c.parse_fields-first.ensures
-    ∙ code-known _ _ _ _ c.if-not-first.false c.format_of-format.ensures (not-false _ c.if-not-format.false) c.parse_all-rest.ensures
-    ∙ fields-held _ _ (not-false _ c.if-not-rest.false))
+    ap Some c.cell_of.ensures
+    ∙ fields-held _ _ _ (sym c.in_ok-first.was ∙ c.parse_fields.ensures) _ c.in_ok-format_of.ensures (sym c.in_ok-rest.was ∙ c.parse_all.ensures)

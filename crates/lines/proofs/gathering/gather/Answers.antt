@@ -4,4 +4,4 @@ use Rattle.lines.proofs.Fronts.{gather-copied}
 use Rattle.lines.proofs.gathering.gather.Goals as goal
 
 pub returns : goal.returns
-returns c = gather-copied _ _ _ _ _ _ c.least-held.ensures c.least-more.ensures c.copy.ensures
+returns c = gather-copied _ _ _ _ _ _ c.min-held.ensures c.min-more.ensures c.copy.ensures

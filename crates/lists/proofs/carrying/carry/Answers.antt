@@ -24,8 +24,8 @@ slice_bounds-tell-end c =
     let w = carrying-word c.loop-at.invariant c.loop-at-test.true in
     omega (arith, (word_fits _ _ c.head_of-head.ensures w c.size-size.ensures).1)
 
-pub tell-told-requires-clause-head_in_bounds : goal.tell-told-requires-clause-head_in_bounds
-tell-told-requires-clause-head_in_bounds c =
+pub tell-written-requires-clause-head_in_bounds : goal.tell-written-requires-clause-head_in_bounds
+tell-written-requires-clause-head_in_bounds c =
     let l = c.loop-at in
     room-here _ _ c.head_of-head.ensures _ (carrying-word l.invariant c.loop-at-test.true) l.invariant.room
 
@@ -43,13 +43,13 @@ offset_bounds-machine-j c =
 pub bounds-machine-j : goal.bounds-machine-j
 bounds-machine-j c = suspended-place _ _ (sound-suspended _ c.loop-at.invariant.kept.sound) c.place-j.ensures
 
-pub give-given-requires-clause-cell_value : goal.give-given-requires-clause-cell_value
-give-given-requires-clause-cell_value c =
+pub give-written-requires-clause-cell_value : goal.give-written-requires-clause-cell_value
+give-written-requires-clause-cell_value c =
     let cells = sound-cells _ c.loop-at.invariant.kept.sound in
     (place-sound _ _ cells, place-sound _ _ cells)
 
-pub give-given-requires-clause-head_in_bounds : goal.give-given-requires-clause-head_in_bounds
-give-given-requires-clause-head_in_bounds c =
+pub give-written-requires-clause-head_in_bounds : goal.give-written-requires-clause-head_in_bounds
+give-written-requires-clause-head_in_bounds c =
     let l = c.loop-at in
     room-here _ _ c.head_of-head.ensures _ (carrying-word l.invariant c.loop-at-test.true) l.invariant.room
 
@@ -73,13 +73,13 @@ loop-at-preserved c =
     (elim c.if-is_whole.branch [
       | then-is_whole w ↦
           rw (w.buffer-is, w.machine-is, w.written-is)
-          (whole-turn _ _ q z (sym c.is_whole.ensures ∙ w.if-is_whole.true) w.tell-told.ensures.carries w.tell-told.ensures.room)
+          (whole-turn _ _ q z (sym c.is_whole.ensures ∙ w.if-is_whole.true) w.tell-written.ensures.carries w.tell-written.ensures.room)
       | else-is_whole w ↦
           let here = place-present _ _ w.place-i.ensures in
           let held = place-cell _ _ w.place-j.ensures in
           rw (w.buffer-is, w.machine-is, w.written-is)
           (small-turn _ _ q (sym c.is_whole.ensures ∙ w.if-is_whole.false)
-          (w.give-given.ensures.carries _ l.invariant.kept here held) w.give-given.ensures.room)
+          (w.give-written.ensures.carries _ l.invariant.kept here held) w.give-written.ensures.room)
     ])
 
 pub returns-clause-machine_value_2 : goal.returns-clause-machine_value_2

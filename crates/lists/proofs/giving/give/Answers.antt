@@ -29,7 +29,7 @@ pub returns-in-Millisecond-clause-carries : goal.returns-in-Millisecond-clause-c
 unfolding small_word call_bytes
 returns-in-Millisecond-clause-carries c = λ cells k p h.
     carries-as (sym (ap small_word c.in-Millisecond.is))
-    (event-carried k Millisecond _ refl (tick-acted cells _ p h c.millisecond-next.ensures) c.tell-in-Millisecond.ensures.state_value c.tell-in-Millisecond.ensures.bytes)
+    (event-carried k Millisecond _ refl (tick-acted cells _ p h c.millisecond.ensures) c.tell-in-Millisecond.ensures.state_value c.tell-in-Millisecond.ensures.bytes)
 
 pub returns-in-Step-clause-carries : goal.returns-in-Step-clause-carries
 unfolding small_word call_bytes
@@ -55,11 +55,11 @@ returns-in-Wait-clause-carries c = λ cells k p h. (unseen small_word c.in-Wait.
 
 pub returns-in-Order-clause-carries : goal.returns-in-Order-clause-carries
 unfolding small_word
-returns-in-Order-clause-carries c = λ cells k p h. carries-as (sym (ap small_word c.in-Order.is)) (order-carried k p c.tell_order.ensures.state_value c.tell_order.ensures.bytes)
+returns-in-Order-clause-carries c = λ cells k p h. carries-as (sym (ap small_word c.in-Order.is)) (order-carried k p refl c.tell_order.ensures)
 
 pub returns-in-Order-clause-room : goal.returns-in-Order-clause-room
 unfolding shown_bytes parts_bytes number_bytes room_of
-returns-in-Order-clause-room c = omega (arith, c.tell_order.ensures.bytes.next, ap room_of c.in-Order.is)
+returns-in-Order-clause-room c = omega (arith, c.tell_order.ensures.next, ap room_of c.in-Order.is)
 
 pub returns-in-Travel-clause-carries : goal.returns-in-Travel-clause-carries
 unfolding small_word

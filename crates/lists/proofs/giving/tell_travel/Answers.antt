@@ -9,8 +9,8 @@ use Rattle.lists.proofs.giving.tell_travel.Goals as goal
 pub returns-clause-carries : goal.returns-clause-carries
 returns-clause-carries c = λ cells k p.
     travel-carried k _ c.travel-travelled.result (c.travel-travelled.ensures cells k p) refl
-    (put-append c.put_byte-begun.ensures c.put_number-written.ensures)
+    (put-append c.put_byte-begun.ensures c.put_number.ensures)
 
 pub returns-clause-room : goal.returns-clause-room
 unfolding number_bytes
-returns-clause-room c = omega (arith, c.put_byte-begun.ensures.next, c.put_number-written.ensures.next)
+returns-clause-room c = omega (arith, c.put_byte-begun.ensures.next, c.put_number.ensures.next)

@@ -6,11 +6,10 @@ use Rattle.observed.specs.Shown.{hex_text}
 use Rattle.observed.proofs.Texts.{gathered-as, gathered_none, hex-next}
 use Rattle.observed.proofs.shown.gather_hex.Goals as goal
 
-pub loop-i-init : goal.loop-i-init
+pub loop-byte-init : goal.loop-byte-init
 unfolding hex_text
-loop-i-init c = (omega arith, gathered_none _ _ _ c.least-next.ensures)
+loop-byte-init c = gathered_none _ _ _ c.min-next.ensures
 
-pub loop-i-preserved : goal.loop-i-preserved
-loop-i-preserved c = let l = c.loop-i in
-    let a = c.args in
-    (omega arith, gathered-as (hex-next a.bytes.now l.i (omega arith)) (gathered-then l.invariant.1 c.gather_pair-next.ensures))
+pub loop-byte-preserved : goal.loop-byte-preserved
+loop-byte-preserved c = let l = c.loop-byte in
+    gathered-as (hex-next c.args.bytes.now l.byte-index (omega arith)) (gathered-then l.invariant c.gather_pair-next.ensures)

@@ -6,11 +6,10 @@ use Rattle.observed.specs.Shown.{shown}
 use Rattle.observed.proofs.Texts.{gathered-as, gathered_none, shown-next}
 use Rattle.observed.proofs.shown.gather_shown.Goals as goal
 
-pub loop-i-init : goal.loop-i-init
+pub loop-byte-init : goal.loop-byte-init
 unfolding shown
-loop-i-init c = (omega arith, gathered_none _ _ _ c.least-next.ensures)
+loop-byte-init c = gathered_none _ _ _ c.min-next.ensures
 
-pub loop-i-preserved : goal.loop-i-preserved
-loop-i-preserved c = let l = c.loop-i in
-    let a = c.args in
-    (omega arith, gathered-as (shown-next a.bytes.now l.i (omega arith)) (gathered-then l.invariant.1 c.gather_byte-next.ensures))
+pub loop-byte-preserved : goal.loop-byte-preserved
+loop-byte-preserved c = let l = c.loop-byte in
+    gathered-as (shown-next c.args.bytes.now l.byte-index (omega arith)) (gathered-then l.invariant c.gather_byte-next.ensures)

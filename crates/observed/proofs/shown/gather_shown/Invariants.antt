@@ -1,12 +1,9 @@
--- Invariant: the bytes passed are gathered as they are shown. Measure: the bytes left.
+-- Invariant: the bytes passed are gathered as they are shown.
 -- Assumes nothing.
-use Rattle.std.proofs.Common.{◌-◌, ◌≤◌, length, take}
+use Rattle.std.proofs.Common.{take}
 use Rattle.lines.specs.Gathering.{Gathered}
 use Rattle.observed.specs.Shown.{shown}
 use Rattle.observed.proofs.shown.gather_shown.Given as goal
 
-abbrev pub invariant-loop-i : goal.invariant-loop-i
-invariant-loop-i l = (l.i ≤ length l.bytes) × Gathered l.initial.line l.n (shown (take l.i l.bytes)) l.line l.next
-
-abbrev pub decreases-loop-i : goal.decreases-loop-i
-decreases-loop-i l = length l.bytes - l.i
+abbrev pub invariant-loop-byte : goal.invariant-loop-byte
+invariant-loop-byte l = Gathered l.initial.line l.n (shown (take l.byte-index l.bytes)) l.line l.next

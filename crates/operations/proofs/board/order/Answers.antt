@@ -5,4 +5,4 @@ use Rattle.operations.proofs.Acting.{order-at}
 use Rattle.operations.proofs.board.order.Goals as goal
 
 pub returns : goal.returns
-returns c = order-at _ _ c.present_cell-cell.ensures.state_value c.board_order.ensures
+returns c = order-at _ _ c.present_cell.ensures.state_value c.board_order.ensures

@@ -7,12 +7,18 @@ use Rattle.machine.proofs.Places.{place-cell, place-present, place-sound, runnin
 use Rattle.operations.proofs.Acting.{time-at}
 use Rattle.operations.proofs.time.millisecond.Goals as goal
 
-pub bounds-machine-i : goal.bounds-machine-i
-bounds-machine-i c = running-place _ _ (sound-running _ c.requires) c.place-i.ensures
+pub bounds-machine-place : goal.bounds-machine-place
+bounds-machine-place c = running-place _ _ (sound-running _ c.requires) c.place.ensures
 
-pub bounds-machine-j : goal.bounds-machine-j
-bounds-machine-j c =
-    suspended-place _ _ (sound-suspended _ c.requires) c.place-j.ensures
+pub bounds-machine-place-2 : goal.bounds-machine-place-2
+bounds-machine-place-2 c =
+    suspended-place _ _ (sound-suspended _ c.requires) c.place-2.ensures
+
+pub offset_bounds-machine-place : goal.offset_bounds-machine-place
+offset_bounds-machine-place c = omega (arith, running-place _ _ (sound-running _ c.requires) c.place.ensures)
+
+pub offset_bounds-machine-place-2 : goal.offset_bounds-machine-place-2
+offset_bounds-machine-place-2 c = omega (arith, suspended-place _ _ (sound-suspended _ c.requires) c.place-2.ensures)
 
 pub millisecond-requires : goal.millisecond-requires
 millisecond-requires c =
@@ -22,5 +28,5 @@ millisecond-requires c =
 pub returns : goal.returns
 unfolding held
 returns c =
-    let cell = place-present _ _ c.place-i.ensures in
-    time-at _ _ cell (place-cell _ _ c.place-j.ensures) c.millisecond.ensures
+    let cell = place-present _ _ c.place.ensures in
+    time-at _ _ cell (place-cell _ _ c.place-2.ensures) c.millisecond.ensures

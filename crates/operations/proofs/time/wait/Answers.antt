@@ -4,12 +4,12 @@ use mathlib.Core.Path.{sym, ◌∙◌}
 use borrow.Author.Rules.{rules}
 use Rattle.laws.proofs.Tests.{choose-true, choose-false}
 use Rattle.machine.specs.Calls.{act}
-use Rattle.operations.specs.Results.{number_of, ending_as, passed_on}
+use Rattle.operations.specs.Results.{number_of, waited_as}
 use Rattle.operations.proofs.Acting.{ran-as}
 use Rattle.operations.proofs.time.wait.Goals as goal
 
 pub returns-then-not-within : goal.returns-then-not-within
-unfolding act number_of ending_as passed_on
+unfolding act number_of waited_as
 returns-then-not-within c =
     let out = sym c.within.ensures ∙ c.if-not-within.true in
     sym (choose-false _ _ _ out)

@@ -11,9 +11,9 @@ put_number-next-requires c =
 pub put_row-requires : goal.put_row-requires
 put_row-requires c =
     row-writable _ _ _ _ _ _ _ _ _ c.requires c.code-code.ensures c.field_count.ensures c.signed_place.ensures
-    c.numbers-numbers.ensures c.put_number-next.ensures
+    c.numbers.ensures c.put_number-next.ensures
 
 pub returns : goal.returns
 returns c =
-    put_as (bytes-laid _ _ _ _ _ c.code-code.ensures c.field_count.ensures c.signed_place.ensures c.numbers-numbers.ensures)
+    put_as (bytes-laid _ _ _ _ _ c.code-code.ensures c.field_count.ensures c.signed_place.ensures c.numbers.ensures)
     (put-append c.put_number-next.ensures c.put_row.ensures)

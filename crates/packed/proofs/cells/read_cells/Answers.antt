@@ -1,41 +1,29 @@
--- Invariant: the cells left, read from the place reached and stored after those so far, give the whole result. Measure: the cells left.
 -- Assumes nothing.
 use native.Mathlib.Omega.{arith}
-use mathlib.Core.Path.{◌∙◌, sym}
+use mathlib.Core.Path.{◌∙◌, refl, sym}
+use lib.ListN.{length-set}
 use Rattle.packed.specs.Cells.{cells_as}
-use Rattle.packed.proofs.CellTurns.{coded-wrong, coded-held, from_start, from_wrong, from_next, from_end}
+use Rattle.packed.proofs.CellTurns.{from_start, from_wrong, from_next, from_end}
 use Rattle.packed.proofs.cells.read_cells.Goals as goal
 
-pub loop-i-init : goal.loop-i-init
-loop-i-init c = from_start _ _ _ _
+pub loop-cell-init : goal.loop-cell-init
+loop-cell-init c = record { many = refl; left = from_start _ _ _ _ }
 
-pub returns-in_default : goal.returns-in_default
+pub returns-in_err-read : goal.returns-in_err-read
 unfolding cells_as
-returns-in_default c =
-    let l = c.loop-i in
-    let a = c.args in
-    let w = coded-wrong a.s.now l.at _ _ c.read_numbers.ensures c.in_default.is in
-    sym (l.invariant ∙ from_wrong a.n a.s.now l.at l.i l.memory c.loop-i-test.true w)
+returns-in_err-read c =
+    let l = c.loop-cell in
+    rw c.from_residual.ensures
+    (sym (l.invariant.left ∙ from_wrong _ c.args.s.now l.at l.cell-index l.cell-items (omega (arith, l.invariant.many)) (sym c.in_err-read.ensures)))
 
-pub offset_bounds-memory-i : goal.offset_bounds-memory-i
-offset_bounds-memory-i c = omega (arith, c.requires)
-
-pub bounds-memory-i : goal.bounds-memory-i
-bounds-memory-i c = omega (arith, c.requires)
-
-pub overflow_add-i : goal.overflow_add-i
-overflow_add-i c = omega (arith, c.requires)
-
-pub loop-i-preserved : goal.loop-i-preserved
-loop-i-preserved c =
-    let l = c.loop-i in
-    let a = c.args in
-    let w = coded-held a.s.now l.at _ _ c.in-Numbers.code c.in-Numbers.next c.read_numbers.ensures c.in-Numbers.is c.cell_of.ensures in
-    l.invariant ∙ from_next a.n a.s.now l.at l.i l.memory c.loop-i-test.true w
+pub loop-cell-preserved : goal.loop-cell-preserved
+loop-cell-preserved c =
+    let l = c.loop-cell in
+    let f = from_next _ c.args.s.now l.at l.cell-index l.cell-items (omega (arith, l.invariant.many)) (sym c.in_ok-read.ensures) in
+    record { many = simp length-set l.invariant.many; left = l.invariant.left ∙ f }
 
 pub returns : goal.returns
 unfolding cells_as
 returns c =
-    let l = c.loop-i in
-    let a = c.args in
-    sym (l.invariant ∙ from_end a.n a.s.now l.at l.i l.memory c.loop-i-test.false)
+    let l = c.loop-cell in
+    sym (l.invariant.left ∙ from_end _ c.args.s.now l.at l.cell-index l.cell-items (omega (arith, l.invariant.many)))

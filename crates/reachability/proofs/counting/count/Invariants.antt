@@ -1,11 +1,8 @@
--- `count` meets its contract. Invariant: the first k places are marked and stand in the order. Measure: the roots left.
+-- `count` meets its contract. Invariant: the first k places are marked and stand in the order.
 -- Assumes nothing.
-use Prim.Native.Nat.{◌-◌, ◌≤◌}
+use mathlib.Core.Path.{◌≡◌}
 use Rattle.reachability.proofs.Rooting.{Rooted}
 use Rattle.reachability.proofs.counting.count.Given as goal
 
 abbrev pub invariant-loop-k : goal.invariant-loop-k
-invariant-loop-k l = (l.k ≤ 16) × Rooted l.used l.order l.k
-
-abbrev pub decreases-loop-k : goal.decreases-loop-k
-decreases-loop-k l = 16 - l.k
+invariant-loop-k l = Rooted l.search.used l.search.order l.k × (l.search.count ≡ l.k)

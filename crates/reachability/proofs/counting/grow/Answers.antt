@@ -3,10 +3,15 @@
 use mathlib.Core.Path.{◌≡◌, refl}
 use lib.ListN.{length}
 use borrow.Author.Rules.{rules}
-use Rattle.reachability.proofs.Rooting.{one-waiting}
+use Rattle.reachability.proofs.Rooting.{one-room, one-waiting}
 use Rattle.reachability.proofs.counting.grow.Goals as goal
 
-pub search-requires : goal.search-requires
-search-requires c =
+pub invariant_of-search : goal.invariant_of-search
+invariant_of-search c =
+    let l : length c.args.used ≡ 131 = search rules in
+    record { room = one-room _ _ l c.requires.at_value }
+
+pub follow-requires : goal.follow-requires
+follow-requires c =
     let l : length c.args.used ≡ 131 = search rules in
     one-waiting l refl c.requires.at_value refl

@@ -2,7 +2,6 @@
 -- Assumes nothing.
 use native.Mathlib.Omega.{arith}
 use lib.ListN.{length-set}
-use borrow.Author.Rules.{rules}
 use Rattle.laws.proofs.Writing.{put-append}
 use Rattle.replies.specs.Pieces.{front_of}
 use Rattle.replies.proofs.Writing.{put_two, digits-place}

@@ -1,6 +1,5 @@
 -- `put_row` meets its contract: the front, the row and byte 13.
 -- Assumes nothing.
-use mathlib.Core.Path.{◌∙◌}
 use Rattle.replies.proofs.Writing.{put-request}
 use Rattle.replies.proofs.Rows.{row-printable, row-ended}
 use Rattle.replies.proofs.pieces.put_row.Goals as goal

@@ -4,7 +4,7 @@ use Rattle.replies.proofs.RequestRows.{output-ready, output-put}
 use Rattle.replies.proofs.requests.put_output.Goals as goal
 
 pub put_row-requires : goal.put_row-requires
-put_row-requires c = output-ready _ _ _ c.args.state _ _ c.requires.0 c.row-shown.ensures c.output_value-value.ensures c.requires.1
+put_row-requires c = output-ready _ _ _ c.args.state _ c.requires.0 c.output_value-value.ensures c.requires.1
 
 pub returns : goal.returns
-returns c = output-put _ _ _ c.args.state _ c.row-shown.ensures c.output_value-value.ensures c.put_row.ensures
+returns c = output-put _ _ _ c.args.state c.output_value-value.ensures c.put_row.ensures

@@ -7,7 +7,7 @@ use Rattle.replies.proofs.requests.put_position.Goals as goal
 
 pub put_row-requires : goal.put_row-requires
 put_row-requires c = let b : c.args.state.position.0 < 2 ^ 32 = search rules in
-    position-ready _ c.args.state _ _ _ c.requires c.row-shown.ensures c.any_signed.ensures b
+    position-ready _ c.args.state _ c.requires b
 
 pub returns : goal.returns
-returns c = position-put _ c.args.state _ _ c.row-shown.ensures c.any_signed.ensures c.put_row.ensures
+returns c = position-put _ c.args.state c.put_row.ensures

@@ -4,7 +4,7 @@ use Rattle.std.proofs.Common.{◌≡◌, ◌+◌, ◌<◌, ◌≤◌, length, sy
 use Rattle.laws.specs.Text.{bytes}
 use Rattle.script.specs.Words.{place_of}
 use Rattle.script.specs.Writes.{field_names}
-use Rattle.script.proofs.Naming.{earlier, later, names-split, names-count, place-first, place-later, place-within}
+use Rattle.script.proofs.Naming.{earlier, later, names-split, names_count, place-first, place-later, place-within}
 use Rattle.script.proofs.names.place_of.Goals as goal
 
 pub returns-then-k-lt9 : goal.returns-then-k-lt9
@@ -13,7 +13,7 @@ returns-then-k-lt9 c =
     let a = c.args in
     let place = c.place-k in
     let name = a.name.now in
-    let inside : place_of name earlier < length earlier = omega (arith, names-count, place.ensures) in
+    let inside : place_of name earlier < length earlier = omega (arith, names_count, place.ensures) in
     place.ensures ∙ sym (ap (place_of name) names-split ∙ place-first name earlier later inside)
 
 pub returns-then-k-lt10 : goal.returns-then-k-lt10
@@ -23,10 +23,10 @@ returns-then-k-lt10 c =
     let place = c.place-k in
     let place2 = c.place-k-2 in
     let name = a.name.now in
-    let outside : length earlier ≤ place_of name earlier = omega (arith, names-count, place.ensures) in
+    let outside : length earlier ≤ place_of name earlier = omega (arith, names_count, place.ensures) in
     let whole : place_of name field_names ≡ length earlier + place_of name later =
     ap (place_of name) names-split ∙ place-later name earlier later outside in
-    omega (arith, names-count, place2.ensures)
+    omega (arith, names_count, place2.ensures)
 
 pub returns : goal.returns
 unfolding bytes
@@ -35,7 +35,7 @@ returns c =
     let place = c.place-k in
     let place2 = c.place-k-2 in
     let name = a.name.now in
-    let outside : length earlier ≤ place_of name earlier = omega (arith, names-count, place.ensures) in
+    let outside : length earlier ≤ place_of name earlier = omega (arith, names_count, place.ensures) in
     let whole : place_of name field_names ≡ length earlier + place_of name later =
     ap (place_of name) names-split ∙ place-later name earlier later outside in
-    omega (arith, names-count, place2.ensures, place-within name later)
+    omega (arith, names_count, place2.ensures, place-within name later)

@@ -11,34 +11,32 @@ pub returns-then-wanted-eq0 : goal.returns-then-wanted-eq0
 returns-then-wanted-eq0 c =
     let a = c.args in
     let count = c.words_of-wanted in
-    let ws = words_of a.line.now in
+    let ws = words_of a.line.text.now in
     let f = form_of a.letter in
     let none = sym count.ensures ∙ c.if-wanted-eq0.true in
     record { value = counted_none f ws none; text = text-other f ws a.text.now (λ e. omega (arith, none, e)) (image-count f (λ e. omega (arith, none, e))) }
 
-pub returns-then-count-wanted : goal.returns-then-count-wanted
-returns-then-count-wanted c =
+pub returns-then-line-wanted : goal.returns-then-line-wanted
+returns-then-line-wanted c =
     let a = c.args in
-    let pre = c.requires in
     let count = c.words_of-wanted in
     let if1 = c.if-wanted-eq0 in
-    let ws = words_of a.line.now in
+    let ws = words_of a.line.text.now in
     let f = form_of a.letter in
     let wanted = count.ensures in
     let some : word_count f ≡ 0 → ⊥ = λ e. if1.false (wanted ∙ e) in
-    let wrong : length ws ≡ word_count f → ⊥ = λ e. c.if-count-wanted.true (pre ∙ e ∙ sym wanted) in
+    let wrong : length ws ≡ word_count f → ⊥ = λ e. c.if-line-wanted.true (a.line.counted ∙ e ∙ sym wanted) in
     record { value = counted-wrong f ws some wrong; text = text-wrong f ws a.text.now wrong }
 
 pub returns : goal.returns
 returns c =
     let a = c.args in
-    let pre = c.requires in
     let count = c.words_of-wanted in
     let if1 = c.if-wanted-eq0 in
-    let if2 = c.if-count-wanted in
-    let ws = words_of a.line.now in
+    let if2 = c.if-line-wanted in
+    let ws = words_of a.line.text.now in
     let f = form_of a.letter in
     let wanted = count.ensures in
     let some : word_count f ≡ 0 → ⊥ = λ e. if1.false (wanted ∙ e) in
-    let right = sym pre ∙ if2.false ∙ wanted in
+    let right = sym a.line.counted ∙ if2.false ∙ wanted in
     record { value = c.of_form.ensures.value ∙ counted-right f ws some right; text = c.of_form.ensures.text ∙ text-right f ws a.text.now right }

@@ -1,12 +1,9 @@
--- Invariant: the parts so far and those of the bytes left are one more than the parts of the text. Measure: the bytes left.
+-- Invariant: the parts so far and those of the bytes left are one more than the parts of the text.
 -- Assumes nothing.
-use Rattle.std.proofs.Common.{◌≡◌, ◌+◌, ◌-◌, ◌≤◌, length, drop}
+use Rattle.std.proofs.Common.{◌≡◌, ◌+◌, ◌≤◌, length, drop}
 use Rattle.script.specs.Words.{parts_of}
 use Rattle.script.proofs.words.count.Given as goal
 
-abbrev pub invariant-loop-i : goal.invariant-loop-i
-invariant-loop-i l =
-    (l.i ≤ length l.text) × ((l.n ≤ l.i + 1) × (l.n + length (parts_of l.separator (drop l.i l.text)) ≡ length (parts_of l.separator l.text) + 1))
-
-abbrev pub decreases-loop-i : goal.decreases-loop-i
-decreases-loop-i l = length l.text - l.i
+abbrev pub invariant-loop-byte : goal.invariant-loop-byte
+invariant-loop-byte l =
+    (l.n ≤ l.byte-index + 1) × (l.n + length (parts_of l.separator (drop l.byte-index l.text)) ≡ length (parts_of l.separator l.text) + 1)

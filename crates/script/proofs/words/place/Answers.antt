@@ -2,7 +2,7 @@
 -- Assumes nothing.
 use Rattle.std.proofs.Common.{List, sym, ap, ◌∙◌, arith}
 use Rattle.script.specs.Words.{part_at, words_of, same_bytes}
-use Rattle.script.proofs.Naming.{same-as, place_here, place-next, place_end}
+use Rattle.script.proofs.Naming.{same_as, place_here, place-next, place_end}
 use Rattle.script.proofs.words.place.Goals as goal
 
 pub returns-then-same : goal.returns-then-same
@@ -12,7 +12,7 @@ returns-then-same c =
     let l = c.loop-k in
     let part = c.part in
     let same = c.same in
-    let test = same-as same.result part.result.now a.name.now same.ensures.0 same.ensures.1 in
+    let test = same_as same.result part.result.now a.name.now same.ensures.0 same.ensures.1 in
     let same = ap (λ (x : List _). same_bytes x a.name.now) (sym part.ensures) ∙ sym test ∙ c.if-same.true in
     omega (arith, place_here a.name.now (words_of a.list.now) l.k (omega arith) same)
 
@@ -23,9 +23,9 @@ loop-k-preserved c =
     let l = c.loop-k in
     let part = c.part in
     let same = c.same in
-    let test = same-as same.result part.result.now a.name.now same.ensures.0 same.ensures.1 in
+    let test = same_as same.result part.result.now a.name.now same.ensures.0 same.ensures.1 in
     let other = ap (λ (x : List _). same_bytes x a.name.now) (sym part.ensures) ∙ sym test ∙ c.if-same.false in
-    (l.invariant.0, (omega arith, omega (arith, place-next a.name.now (words_of a.list.now) l.k (omega arith) other)))
+    (l.invariant.0, omega (arith, place-next a.name.now (words_of a.list.now) l.k (omega arith) other))
 
 pub returns : goal.returns
 returns c =

@@ -1,51 +1,29 @@
--- `writes::takes` meets its contract: a code above 99 is none.
+-- `writes::takes` meets its contract: a code above 99 is none, and a known one takes as many numbers as its format has fields.
 -- Assumes nothing.
-use Rattle.std.proofs.Common.{◌≡◌, ℕ, true, eqb, length, sym, ap, ◌∙◌}
-use Rattle.laws.proofs.Joins.{fails, passes}
-use Rattle.format.specs.Formats.{known, fields_of, format_of}
-use Rattle.format.specs.declared.Format.{Format}
-use Rattle.script.specs.Writes.{takes_count}
+use Rattle.std.proofs.Common.{ℕ, eqb, length, ap, ◌∙◌, arith}
+use Rattle.format.proofs.Entries.{unknown-format, known-format}
 use Rattle.script.proofs.RawWrites.{known-large, takes-any, takes_one, takes-fields}
 use Rattle.script.proofs.writes.takes.Goals as goal
-
-known_in : {f : Format} (code : ℕ) → f ≡ format_of code → f.known ≡ known code
-unfolding format_of
-known_in code e = ap (λ (f : Format). f.known) e
-
-fields_in : {f : Format} (code : ℕ) → f ≡ format_of code → f.row.count ≡ length (fields_of code)
-unfolding format_of
-fields_in code e = ap (λ (f : Format). f.row.count) e
-
--- as many as the row counts
-takes-fields-of :
-    {fields : ℕ} (code count : ℕ) → known code ≡ true → fields ≡ length (fields_of code) → (fields ≡ 0 → ⊥) →
-    eqb count fields ≡ takes_count code count
-takes-fields-of code count t e n = ap (eqb count) e ∙ takes-fields code count t (λ z. n (e ∙ z))
 
 pub returns-then-code-gt99 : goal.returns-then-code-gt99
 returns-then-code-gt99 c =
     let a = c.args in
     takes-any a.code a.count (known-large a.code c.if-code-gt99.true)
 
-pub returns-then-not-format : goal.returns-then-not-format
-returns-then-not-format c =
+pub returns-in-Some-empty : goal.returns-in-Some-empty
+returns-in-Some-empty c =
     let a = c.args in
-    let format-of = c.format_of-format in
-    takes-any a.code a.count (fails (known_in a.code format-of.ensures) c.if-not-format.true)
+    let k = known-format a.code c.in-Some-empty.ensures in
+    takes_one a.code a.count k.0 (omega (arith, c.in-Some-empty.len_below, ap length k.1))
 
-pub returns-then-format-eq0 : goal.returns-then-format-eq0
-returns-then-format-eq0 c =
+pub returns-in-Some : goal.returns-in-Some
+returns-in-Some c =
     let a = c.args in
-    let format-of = c.format_of-format in
-    let if2 = c.if-not-format in
-    let here = passes (known_in a.code format-of.ensures) if2.false in
-    takes_one a.code a.count here (sym (fields_in a.code format-of.ensures) ∙ c.if-format-eq0.true)
+    let k = known-format a.code c.in-Some.ensures in
+    ap (λ (n : ℕ). eqb a.count n) (ap length k.1)
+    ∙ takes-fields a.code a.count k.0 (λ z. omega (arith, c.in-Some.len_at_least, ap length k.1))
 
-pub returns : goal.returns
-returns c =
+pub returns-in-None : goal.returns-in-None
+returns-in-None c =
     let a = c.args in
-    let format-of = c.format_of-format in
-    let if2 = c.if-not-format in
-    let if3 = c.if-format-eq0 in
-    let here = passes (known_in a.code format-of.ensures) if2.false in
-    takes-fields-of a.code a.count here (fields_in a.code format-of.ensures) if3.false
+    takes-any a.code a.count (unknown-format a.code c.in-None.ensures)

@@ -1,4 +1,4 @@
--- Invariant: the bits are those of the outputs from a place on. Measure: the place.
+-- Invariant: the bits are those of the outputs from a place on.
 -- Assumes nothing.
 use Prim.Native.Nat.{◌≤◌}
 use mathlib.Core.Path.{◌≡◌}
@@ -8,6 +8,3 @@ use Rattle.seen.proofs.orders.output_bits.Given as goal
 
 abbrev pub invariant-loop-i : goal.invariant-loop-i
 invariant-loop-i l = (l.i ≤ 14) × (l.bits ≡ bits_of (drop l.i l.outputs))
-
-abbrev pub decreases-loop-i : goal.decreases-loop-i
-decreases-loop-i l = l.i

@@ -6,7 +6,6 @@ use mathlib.Core.Bool.{Bool, ◌&&◌}
 use mathlib.Core.List.{List}
 use lib.ListN.{get_or}
 use lib.Seq.{get_or-drop}
-use borrow.Author.Rules.{rules}
 use Rattle.laws.specs.Tests.{both}
 use Rattle.laws.proofs.Joins.{and_both}
 use Rattle.fields.specs.Names.{pair_of}
@@ -32,5 +31,5 @@ whole s {a} {b} {c} {d} {u} {v} {x} {y} ea eb ec ed ex ey eu ev =
     ∙ ap (header_with (both (is_digit (get_or s 0 0)) (is_digit (get_or s 1 0))) ((get_or s 0 0 - 48) * 10 + (get_or s 1 0 - 48))) code
 
 pub returns : goal.returns
-returns c = whole _ c.byte_at-a.ensures c.byte_at-b.ensures c.byte_at-c.ensures c.byte_at-d.ensures
+returns c = whole _ c.byte_at-a.ensures c.byte_at-b.ensures (c.from.ensures ∙ c.byte_at-c.ensures) (c.from-2.ensures ∙ c.byte_at-d.ensures)
     c.is_digit.ensures c.is_digit-2.ensures c.digit_value.ensures.value c.digit_value-2.ensures.value

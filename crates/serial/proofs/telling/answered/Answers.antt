@@ -1,7 +1,6 @@
 -- `answered` meets its contract: the test on the address picks the same case.
 -- Assumes nothing.
 use mathlib.Core.Path.{sym, ◌∙◌}
-use borrow.Author.Rules.{rules}
 use Rattle.laws.proofs.Tests.{choose-true, choose-false}
 use Rattle.laws.proofs.Writing.{put-none, put_as}
 use Rattle.serial.proofs.telling.answered.Goals as goal

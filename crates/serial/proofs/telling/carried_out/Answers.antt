@@ -3,7 +3,6 @@
 use mathlib.Core.Path.{◌≡◌, sym, ap, subst}
 use mathlib.Core.Bool.{true}
 use mathlib.Core.List.{[]}
-use borrow.Author.Rules.{rules}
 use Rattle.laws.specs.Tests.{choose}
 use Rattle.laws.proofs.Writing.{put_as}
 use Rattle.instruction.specs.Soundness.{cell_sound}

@@ -3,7 +3,6 @@
 use Prim.Native.Nat.{ℕ, ◌-◌, ◌<◌}
 use mathlib.Core.Path.{sym, ap, subst, ◌∙◌}
 use lib.ListN.{get_or}
-use borrow.Author.Rules.{rules}
 use Rattle.units.specs.declared.CellAddress.{CellAddress}
 use Rattle.machine.specs.Record.{cell_at, null_cell}
 use Rattle.machine.specs.Acting.{named_cell}

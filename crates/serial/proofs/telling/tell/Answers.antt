@@ -1,9 +1,6 @@
 -- `tell` meets its contract: a string that is not heard leaves all as it was; another is told by its header and its command.
 -- Assumes nothing.
 use mathlib.Core.Path.{sym, ◌∙◌}
-use native.Mathlib.Omega.{arith}
-use lib.ListN.{length-take}
-use borrow.Author.Rules.{rules}
 use Rattle.machine.specs.Strings.{body_of}
 use Rattle.serial.proofs.Ends.{ended-length}
 use Rattle.serial.proofs.Told.{left-silent, left_as, told-unended, told-unheard, told-ended}

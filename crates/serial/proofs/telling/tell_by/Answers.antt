@@ -2,7 +2,6 @@
 -- Assumes nothing.
 use mathlib.Core.Path.{◌≡◌, refl, sym, subst, ◌∙◌}
 use mathlib.Core.Bool.{true}
-use borrow.Author.Rules.{rules}
 use Rattle.laws.proofs.Tests.{both_left}
 use Rattle.machine.specs.Commands.{placed}
 use Rattle.machine.specs.Strings.{admitted}

@@ -15,10 +15,10 @@ busy-at : (r : Running) {i j : Instruction} → (is_cell r.cell ≡ true → j �
 unfolding busy_sound
 busy-at r h = both_under _ (λ t. rw (h t))
 
-pub returns-then-cell-eq0 : goal.returns-then-cell-eq0
+pub returns-then-running-eq0 : goal.returns-then-running-eq0
 unfolding running_sound
-returns-then-cell-eq0 c = λ cells h. c.resting_sound.ensures ∙ sym (choose-true _ _ _ (eq-eqb _ _ c.if-cell-eq0.true))
+returns-then-running-eq0 c = λ cells h. c.resting_sound.ensures ∙ sym (choose-true _ _ _ (eq-eqb _ _ c.if-running-eq0.true))
 
-pub returns : goal.returns
+pub returns-else-running-eq0 : goal.returns-else-running-eq0
 unfolding running_sound
-returns c = λ cells h. c.busy_sound.ensures ∙ busy-at _ h ∙ sym (choose-false _ _ _ (ne_eqb _ _ c.if-cell-eq0.false))
+returns-else-running-eq0 c = λ cells h. c.busy_sound.ensures ∙ busy-at _ h ∙ sym (choose-false _ _ _ (ne_eqb _ _ c.if-running-eq0.false))

@@ -8,21 +8,21 @@ use borrow.Author.Tests.{eq-eqb, ne_eqb}
 use Rattle.laws.proofs.Tests.{choose-true, choose-false}
 use Rattle.laws.proofs.Joins.{and-as, both_under}
 use Rattle.machine.specs.Soundness.{suspended_remaining, suspended_sound}
-use Rattle.soundness.proofs.Comparisons.{loops-pass}
+use Rattle.soundness.proofs.Comparisons.{loops_pass}
 use Rattle.soundness.proofs.suspended.suspended_sound.Goals as goal
 
-pub returns-then-cell-eq0 : goal.returns-then-cell-eq0
+pub returns-then-suspended-eq0 : goal.returns-then-suspended-eq0
 unfolding suspended_sound
-returns-then-cell-eq0 c =
+returns-then-suspended-eq0 c =
     λ cells h.
-    and-as c.is_nothing.ensures refl ∙ sym (choose-true _ _ _ (eq-eqb _ _ c.if-cell-eq0.true))
+    and-as c.is_nothing.ensures refl ∙ sym (choose-true _ _ _ (eq-eqb _ _ c.if-suspended-eq0.true))
 
-pub returns : goal.returns
+pub returns-else-suspended-eq0 : goal.returns-else-suspended-eq0
 unfolding suspended_sound
-returns c =
+returns-else-suspended-eq0 c =
     let s = c.args.suspended in
     let f : Fits w16 s.loops = search rules in
     λ cells h.
     and-as c.is_cell.ensures c.suspended_remaining.ensures
-    ∙ both_under _ (λ t. ap (suspended_remaining s.remaining) (sym (h t)) ∙ sym (loops-pass _ f))
-    ∙ sym (choose-false _ _ _ (ne_eqb _ _ c.if-cell-eq0.false))
+    ∙ both_under _ (λ t. ap (suspended_remaining s.remaining) (sym (h t)) ∙ sym (loops_pass _ f))
+    ∙ sym (choose-false _ _ _ (ne_eqb _ _ c.if-suspended-eq0.false))

@@ -14,9 +14,9 @@ pub returns-then-is_zero : goal.returns-then-is_zero
 unfolding braking_count
 returns-then-is_zero c = sym (choose-true _ _ _ (sym c.is_zero.ensures ∙ c.if-is_zero.true))
 
-pub returns : goal.returns
+pub returns-else-is_zero : goal.returns-else-is_zero
 unfolding braking_count
-returns c =
+returns-else-is_zero c =
     let a = c.args in
     let s : SFits w32 a.steps.0 = search rules in
     let z = sfits-scaled a.steps a.x4 s in

@@ -46,16 +46,16 @@ returns-then-profile c =
     ) at c.steps_of.ensures in
     ap (λ (z : ℤ). steps_by z) (e ∙ sym (choose-true _ _ _ c.if-profile.true))
 
-pub steps_of-requires-2 : goal.steps_of-requires-2
-steps_of-requires-2 c =
+pub steps_of-requires-else-profile : goal.steps_of-requires-else-profile
+steps_of-requires-else-profile c =
     let a = c.args in
     let w = within-braking a.profile.steps a.profile.x4 c.requires in
     rw (c.braking_count-n.ensures, to_z-of_z (sfits-long w)) w
 
-pub returns : goal.returns
+pub returns-else-profile : goal.returns-else-profile
 unfolding braking_steps
-returns c =
+returns-else-profile c =
     let a = c.args in
     let w = within-braking a.profile.steps a.profile.x4 c.requires in
-    let e = rw (c.braking_count-n.ensures, to_z-of_z (sfits-long w)) at c.steps_of-2.ensures in
+    let e = rw (c.braking_count-n.ensures, to_z-of_z (sfits-long w)) at c.steps_of-else-profile.ensures in
     ap (λ (z : ℤ). steps_by z) (e ∙ sym (choose-false _ _ _ c.if-profile.false))

@@ -12,10 +12,10 @@ pub returns-then-x4 : goal.returns-then-x4
 unfolding scaled_of multiplier_of choose
 returns-then-x4 c =
     let s : SFits w32 c.args.self.0 = search rules in
-    simp (to_z-of_z s, to_z-of_z-wide s, to_z-of_z (sfits-scaled c.args.self true s), c.if-x4.true)
+    simp (c.from-n.ensures, to_z-of_z s, to_z-of_z-wide s, to_z-of_z (sfits-scaled c.args.self true s), c.if-x4.true)
 
-pub returns : goal.returns
+pub returns-else-x4 : goal.returns-else-x4
 unfolding scaled_of multiplier_of choose one
-returns c =
+returns-else-x4 c =
     let s : SFits w32 c.args.self.0 = search rules in
-    simp (to_z-of_z s, to_z-of_z-wide s, c.if-x4.false) (sym (*ℤ-one c.args.self.0))
+    simp (c.from-n.ensures, to_z-of_z s, to_z-of_z-wide s, c.if-x4.false) (sym (*ℤ-one c.args.self.0))

@@ -15,17 +15,18 @@ returns-then-absolute c =
     let s : SFits w32 a.self.0 = search rules in
     let f : Fits w32 a.position.0 = search rules in
     simp (
+      c.from.ensures,
       to_z-of_z s,
       to_z-of_z-wide s,
-      c.number-p.ensures,
+      c.number.ensures,
       to_z-of_z-wide (sfits_to_z f),
       to_z-of_z (sfits-shift a.self a.position s f),
       c.if-absolute.true,
     )
 
-pub returns : goal.returns
+pub returns-else-absolute : goal.returns-else-absolute
 unfolding shift_of choose
-returns c =
+returns-else-absolute c =
     let a = c.args in
     let s : SFits w32 a.self.0 = search rules in
     simp (c.scaled.ensures, to_z-of_z (sfits-scaled a.self a.x4 s), c.if-absolute.false)

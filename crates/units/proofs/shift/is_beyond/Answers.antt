@@ -9,12 +9,12 @@ pub returns-then-limit-shift : goal.returns-then-limit-shift
 unfolding is_beyond_of either
 returns-then-limit-shift c =
     let s : SFits w64 c.args.shift = search rules in
-    let t = rw (to_z-of_z s) at c.if-limit-shift.true in
-    simp t
+    let t = rw (c.from-limit.ensures, to_z-of_z s) at c.if-limit-shift.true in
+    simp (c.from-limit.ensures, to_z-of_z s, t)
 
-pub returns : goal.returns
+pub returns-else-limit-shift : goal.returns-else-limit-shift
 unfolding is_beyond_of either
-returns c =
+returns-else-limit-shift c =
     let s : SFits w64 c.args.shift = search rules in
-    let t = rw (to_z-of_z s) at c.if-limit-shift.false in
-    simp (t, to_z-of_z s)
+    let t = rw (c.from-limit.ensures, to_z-of_z s) at c.if-limit-shift.false in
+    simp (c.from-limit.ensures, t, to_z-of_z s)

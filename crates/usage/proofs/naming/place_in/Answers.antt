@@ -8,10 +8,10 @@ use Rattle.usage.proofs.naming.place_in.Goals as goal
 pub returns-then-n-eq0 : goal.returns-then-n-eq0
 returns-then-n-eq0 c = named-nothing _ c.if-n-eq0.true
 
-pub returns-then-not-named : goal.returns-then-not-named
+pub returns-in_default : goal.returns-in_default
 unfolding place_in body_of
-returns-then-not-named c = named-wrong c.cell_field-named.ensures c.if-not-named.true
+returns-in_default c = named-wrong c.in_default.ensures
 
 pub returns : goal.returns
 unfolding place_in body_of
-returns c = named-right c.cell_field-named.ensures c.if-not-named.false c.place_of.ensures
+returns c = named-right c.in-Some.ensures c.place_of.ensures
