@@ -73,23 +73,24 @@ pub fn judged_ee(state: State, cell: Cell) -> State
     }
 }
 
-#[tactic(auto, using(machine::proofs::Cells::steps_within_run), unfolding(laws::specs::Tests::choose, machine::specs::InputWords::judged_es))]
+#[tactic(auto, using(machine::proofs::Cells::steps_within_run), unfolding(laws::specs::Tests::choose, machine::specs::InputWords::judged_es, machine::specs::Stopping::free_run_stop_at))]
 pub fn judged_es(state: State, cell: Cell) -> State
     requires { cell_sound cell ≡ true }
     ensures { result ≡ judged_es state cell }
 {
     if state.inputs[State::ES] {
-        free_run_stop(state, cell)
+        free_run_stop(state, cell.instruction.profile(), cell.next)
     } else {
         state
     }
 }
 
-#[tactic(auto, unfolding(machine::specs::InputWords::judged_px))]
+#[tactic(auto, unfolding(machine::specs::InputWords::judged_px, machine::specs::Stopping::px_seen_at))]
 pub fn judged_px(state: State, cell: Cell) -> State
     ensures { result ≡ judged_px state cell }
 {
-    px_seen(state.inputs[State::PX], state, cell)
+    let profile = cell.instruction.profile();
+    px_seen(state.inputs[State::PX], state, profile, cell.next)
 }
 
 // An inputs word: ST, then EE, ES and PX, at the cell that is present before it.

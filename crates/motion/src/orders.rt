@@ -72,14 +72,22 @@ fn backing_off(state: State, profile: Profile) -> BoardOrder
     }
 }
 
-// The order, given the present cell: stand outside a run, slow in both slowings, else the run.
-#[tactic(auto, using(crate::proofs::Cells::hertz_within), unfolding(machine::specs::Orders::order_at, machine::specs::Orders::order_in))]
+// The order, given the present cell.
+#[tactic(auto, using(crate::proofs::Cells::hertz_within), unfolding(machine::specs::Orders::order_at))]
 pub fn board_order(state: State, cell: Cell) -> BoardOrder
     requires { cell_sound cell ≡ true }
     ensures { result ≡ order_at state cell }
 {
+    order(state, cell.instruction.profile())
+}
+
+// The order: stand outside a run, slow in both slowings, else the run.
+#[tactic(auto, unfolding(machine::specs::Orders::order_in))]
+pub fn order(state: State, profile: Profile) -> BoardOrder
+    requires { WithinHertz profile.hertz }
+    ensures { result ≡ order_in state.running.phase state profile }
+{
     let phase = state.running.phase;
-    let profile = cell.instruction.profile();
     match phase {
         Phase::Waiting | Phase::Delay => BoardOrder::Stand(signals(state)),
         Phase::Run | Phase::Braking => run_order(phase, state, profile),

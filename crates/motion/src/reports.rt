@@ -1,14 +1,14 @@
 // At-speed and halted, reported by the board.
 ghost use Rattle.std.specs.Prelude.{◌≡◌};
-ghost use Rattle.machine.specs.Reports.{runs_or_brakes, takes_at_speed_at, at_speed};
+ghost use Rattle.machine.specs.Reports.{runs_or_brakes, takes_at_speed_in, at_speed};
 ghost use Rattle.machine.specs.Reports.{slows as slows_of, takes_halted};
-ghost use Rattle.machine.specs.Reports.{halted_at};
+ghost use Rattle.machine.specs.Reports.{halted_in};
 
-use instruction::Cell;
-use instruction::run::Motion;
+use instruction::run::{Motion, Profile};
 use machine::{Phase, Remaining, State};
 use progress::{advanced, entered};
 use stops::emergency::{abandoned, interrupted};
+use units::CellAddress;
 
 fn runs_or_brakes(phase: Phase) -> bool
     ensures { result ≡ runs_or_brakes phase }
@@ -17,11 +17,11 @@ fn runs_or_brakes(phase: Phase) -> bool
 }
 
 // Whether at-speed is expected: in the run or braking of a ramp run.
-#[tactic(auto, unfolding(laws::specs::Tests::choose, machine::specs::Reports::takes_at_speed_in, machine::specs::Reports::takes_at_speed_at))]
-pub fn takes_at_speed(state: State, cell: Cell) -> bool
-    ensures { result ≡ takes_at_speed_at state cell }
+#[tactic(auto, unfolding(laws::specs::Tests::choose, machine::specs::Reports::takes_at_speed_in))]
+pub fn takes_at_speed(phase: Phase, profile: Profile) -> bool
+    ensures { result ≡ takes_at_speed_in phase profile }
 {
-    runs_or_brakes(state.running.phase) && cell.instruction.profile().ramp != 0
+    runs_or_brakes(phase) && profile.ramp != 0
 }
 
 // Sets the at-speed mark.
@@ -48,15 +48,15 @@ pub fn takes_halted(state: State) -> bool
 
 // The motor stands after slowing: a zero search goes back until PX is off, and every other run goes
 // on. After an emergency slowing the program ends; of a 05 nothing is left to resume.
-#[tactic(auto, unfolding(laws::specs::Tests::choose, machine::specs::Reports::halted_slowing, machine::specs::Reports::halted_emergency, machine::specs::Reports::halted_in, machine::specs::Reports::halted_at))]
-pub fn halted(state: State, cell: Cell) -> State
-    ensures { result ≡ halted_at state cell }
+#[tactic(auto, unfolding(laws::specs::Tests::choose, machine::specs::Reports::halted_slowing, machine::specs::Reports::halted_emergency, machine::specs::Reports::halted_in))]
+pub fn halted(motion: Motion, state: State, next: CellAddress) -> State
+    ensures { result ≡ halted_in state.running.phase motion state next }
 {
-    match (state.running.phase, cell.instruction.profile().motion) {
+    match (state.running.phase, motion) {
         (Phase::Slowing, Motion::SearchRun) if state.inputs[State::PX] => {
             entered(state, Phase::BackOff, Remaining::Nothing)
         }
-        (Phase::Slowing, _) => advanced(state, cell.next),
+        (Phase::Slowing, _) => advanced(state, next),
         (Phase::EmergencySlowing, Motion::DelayedStopRun) => abandoned(state),
         (Phase::EmergencySlowing, _) => interrupted(state),
         _ => state,

@@ -65,13 +65,20 @@ pub fn moved_by(backward: bool, mut state: State) -> State
 
 // None remain: the program goes on, or ends if it was slowing for an emergency stop.
 #[tactic(auto, unfolding(machine::specs::Stepping::arrived_in))]
-pub fn arrived(state: State, next: CellAddress) -> State
-    ensures { result ≡ arrived_in state.running.phase state next }
+pub fn arrived_in(phase: Phase, state: State, next: CellAddress) -> State
+    ensures { result ≡ arrived_in phase state next }
 {
-    match state.running.phase {
+    match phase {
         Phase::EmergencySlowing => abandoned(state),
         _ => advanced(state, next),
     }
+}
+
+// None remain, in the phase that the state is in.
+pub fn arrived(state: State, next: CellAddress) -> State
+    ensures { result ≡ arrived_in state.running.phase state next }
+{
+    arrived_in(state.running.phase, state, next)
 }
 
 // One less of what remains, if steps are counted.

@@ -24,25 +24,26 @@ pub fn step(state: State, cell: Cell) -> Result<State, Refusal>
 }
 
 // The run has reached its speed.
-#[tactic(auto, unfolding(crate::specs::Events::at_speed_at, laws::specs::Tests::choose))]
+#[tactic(auto, unfolding(crate::specs::Events::at_speed_at, laws::specs::Tests::choose, machine::specs::Reports::takes_at_speed_at))]
 pub fn at_speed(state: State, cell: Cell) -> Result<State, Refusal>
     ensures { result ≡ at_speed_at state cell }
 {
-    if !takes_at_speed(state, cell) {
+    if !takes_at_speed(state.running.phase, cell.instruction.profile()) {
         return Err(Refusal::ReportOutOfPlace);
     }
     Ok(motion::reports::at_speed(state))
 }
 
 // The motor stands after slowing.
-#[tactic(auto, unfolding(crate::specs::Events::halted_on, laws::specs::Tests::choose))]
+#[tactic(auto, unfolding(crate::specs::Events::halted_on, laws::specs::Tests::choose, machine::specs::Reports::halted_at))]
 pub fn halted(state: State, cell: Cell) -> Result<State, Refusal>
     ensures { result ≡ halted_on state cell }
 {
     if !takes_halted(state) {
         return Err(Refusal::ReportOutOfPlace);
     }
-    Ok(motion::reports::halted(state, cell))
+    let motion = cell.instruction.profile().motion;
+    Ok(motion::reports::halted(motion, state, cell.next))
 }
 
 // An inputs word: bits 0 to 10 are I0, I1, I2, PX, S0 to S3, ST, ES, EE.

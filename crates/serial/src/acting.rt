@@ -104,7 +104,7 @@ fn cam_set(mut state: State, set: bool, bits: u32) -> State
 }
 
 // The state after a command. The cell is the one named by `named`.
-#[tactic(auto, using(machine::proofs::Cells::steps_within_run), unfolding(machine::specs::Acting::acted_at))]
+#[tactic(auto, using(machine::proofs::Cells::steps_within_run), unfolding(machine::specs::Acting::acted_at, machine::specs::Stopping::free_run_stop_at))]
 pub fn acted(command: Command, state: State, cell: Cell) -> State
     requires { (placed command ≡ true) × (cell_sound cell ≡ true) }
     ensures { result ≡ acted_at command state cell }
@@ -114,7 +114,7 @@ pub fn acted(command: Command, state: State, cell: Cell) -> State
         Command::SetPreset { value } => preset_stored(state, value),
         Command::Start { at } => started(state, at),
         Command::EmergencyStop => emergency_stop(state, cell),
-        Command::FreeRunStop => free_run_stop(state, cell),
+        Command::FreeRunStop => free_run_stop(state, cell.instruction.profile(), cell.next),
         Command::SetPosition { bits } => position_set(state, bits),
         Command::SetOutput { output, on } => output_set(state, output, on),
         Command::SetCam { set, bits } => cam_set(state, set, bits),
