@@ -70,6 +70,7 @@ pub fn running_after(change: Change, running: Running) -> Running
 }
 
 // Carries a change out in place. One of more is left to the caller.
+#[inline(always)]
 pub fn carry_out(state: &mut State, change: Change)
     requires { place_in change < 14 }
     ensures { state.new ≡ changed_by change state.old }
@@ -183,6 +184,7 @@ fn delay_change(running: Running, next: CellAddress) -> Change
 }
 
 // What the next millisecond of a busy drive changes.
+#[inline(always)]
 #[tactic(auto, unfolding(crate::specs::Changes::change_in))]
 pub fn next_change(state: &State, cell: Cell) -> Change
     requires { cell_sound cell ≡ true }

@@ -16,7 +16,6 @@ use Rattle.machine.specs.Calls.Call.{SendString, Wait}
 use Rattle.machine.specs.Operations.{filled, buffer_after}
 use Rattle.machine.specs.declared.Machine.{Machine}
 use Rattle.lines.proofs.Lending.{put-part}
-use Rattle.drive.specs.declared.results.Told.{Told}
 use Rattle.console.specs.Console.{lent, answer_to, after_string}
 use Rattle.console.specs.Serving.{Answers}
 use Rattle.console.specs.declared.server.Server.{Server}
@@ -27,14 +26,14 @@ unfolding apply act lent
 lent_any s l m e = ap (λ (n : ℕ). choose (sound m) (choose (ltb n 64) (refused 3 m) (answered (told s m))) (refused 2 m)) e
 
 pub answered-so :
-    (s : List ℕ) (m : Machine) (l : List ℕ) (w k : ℕ) (ys : List ℕ) (t : Told) (r : Server) (n : ℕ) →
+    (s : List ℕ) (m : Machine) (l : List ℕ) (w k : ℕ) (ys : List ℕ) (x : Machine) (u : ℕ) (r : Server) (n : ℕ) →
     w + 64 ≤ length l → k ≡ 64 → length ys ≡ length (take k (drop w l)) →
-    t.drive.machine ≡ next (SendString s (take k (drop w l))) m →
-    take t.length ys ≡ (apply (SendString s (take k (drop w l))) m).answer → ys ≡ buffer_after s (take k (drop w l)) m →
-    r.drive.machine ≡ next (Wait 1000) t.drive.machine → n ≡ min t.length 64 →
+    x ≡ next (SendString s (take k (drop w l))) m →
+    take u ys ≡ (apply (SendString s (take k (drop w l))) m).answer → ys ≡ buffer_after s (take k (drop w l)) m →
+    r.drive.machine ≡ next (Wait 1000) x → n ≡ min u 64 →
     r.out ≡ take w l ++ (ys ++ drop k (drop w l)) → r.held ≡ 0 → Answers s m l w r (w + n)
 unfolding answer_to after_string next buffer_after filled
-answered-so s m l w k ys t r n hl hk hy hm ha hb hv hn ho hz =
+answered-so s m l w k ys x u r n hl hk hy hm ha hb hv hn ho hz =
     record { machine = machine; put = rw ho put; within = omega (arith, hn); ended = hz }
   where
     part : List ℕ
@@ -47,13 +46,13 @@ answered-so s m l w k ys t r n hl hk hy hm ha hb hv hn ho hz =
     same = lent_any s part m size
 
     machine : r.drive.machine ≡ after_string s m
-    machine = hv ∙ ap (λ (x : Machine). (apply (Wait 1000) x).machine) (hm ∙ ap (λ (o : Outcome). o.machine) same)
+    machine = hv ∙ ap (λ (y : Machine). (apply (Wait 1000) y).machine) (hm ∙ ap (λ (o : Outcome). o.machine) same)
 
     long : n ≡ length (answer_to s m)
     long =
         hn
-        ∙ ap (λ (i : ℕ). min t.length i) (sym (hy ∙ size))
-        ∙ sym (length-take t.length ys)
+        ∙ ap (λ (i : ℕ). min u i) (sym (hy ∙ size))
+        ∙ sym (length-take u ys)
         ∙ ap length (ha ∙ ap (λ (o : Outcome). o.answer) same)
 
     now : ys ≡ filled (answer_to s m) part

@@ -8,38 +8,41 @@ ghost use Rattle.console.specs.Serving.{Answers, Serves, at_work};
 
 use crate::server::Server;
 use drive::Drive;
-use drive::results::Told;
 use lines::gathering::front;
 use lines::strings::take_string;
 use units::Milliseconds;
 
-// The drive after a string, and how many bytes answer it. Nothing answers a refused one.
+// Gives a drive a string: how many bytes answer it. Nothing answers a refused one. The drive is lent,
+// since one that is handed on in a result is copied once more.
 #[tactic(auto, unfolding(drive::specs::Results::told_as, drive::specs::Results::length_of, drive::specs::Results::refused_as, machine::specs::Calls::next))]
-fn told(drive: Drive, string: &[u8], buffer: &mut [u8]) -> Told
-    ensures machine { result.drive.machine ≡
-        next (SendString string.now buffer.old) drive.machine }
-    ensures answer { take result.length buffer.new ≡
-        (apply (SendString string.now buffer.old) drive.machine).answer }
+fn tell(drive: &mut Drive, string: &[u8], buffer: &mut [u8]) -> usize
+    ensures machine { drive.new.machine ≡
+        next (SendString string.now buffer.old) drive.old.machine }
+    ensures answer { take result buffer.new ≡
+        (apply (SendString string.now buffer.old) drive.old.machine).answer }
     ensures buffer { buffer.new ≡
-        buffer_after string.now buffer.old drive.machine }
+        buffer_after string.now buffer.old drive.old.machine }
 {
     match drive.string(string, buffer) {
-        Ok(told) => told,
-        Err(refused) => Told {
-            length: 0,
-            drive: refused.drive,
-        },
+        Ok(told) => {
+            *drive = told.drive;
+            told.length
+        }
+        Err(refused) => {
+            *drive = refused.drive;
+            0
+        }
     }
 }
 
-// The drive after a wait of 1,000.
+// A wait of 1,000.
 #[tactic(auto, unfolding(drive::specs::Results::waited_as, drive::specs::Results::refused_as, machine::specs::Calls::next))]
-fn waited(drive: Drive) -> Drive
-    ensures { result.machine ≡ next (Wait 1000) drive.machine }
+fn wait(drive: &mut Drive)
+    ensures { drive.new.machine ≡ next (Wait 1000) drive.old.machine }
 {
     match drive.wait(Milliseconds(1000)) {
-        Ok(waited) => waited.drive,
-        Err(refused) => refused.drive,
+        Ok(waited) => *drive = waited.drive,
+        Err(refused) => *drive = refused.drive,
     }
 }
 
@@ -54,10 +57,10 @@ impl Server {
     {
         let string = front(&self.string, n);
         let out = self.out.as_mut_slice();
-        let told = told(self.drive, string, &mut out[written..written + 64]);
-        self.drive = waited(told.drive);
+        let length = tell(&mut self.drive, string, &mut out[written..written + 64]);
+        wait(&mut self.drive);
         self.held = 0;
-        written + told.length.min(64)
+        written + length.min(64)
     }
 
     // Gives the drive each string that a part of the input completes, and puts the answers behind

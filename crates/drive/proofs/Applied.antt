@@ -21,45 +21,19 @@ use Rattle.operations.specs.declared.results.Refusal.TheVariants.{Unsound}
 use Rattle.drive.specs.declared.Drive.{Drive}
 use Rattle.drive.specs.declared.results.Refused.{Refused}
 use Rattle.drive.specs.declared.results.Told.{Told}
-use Rattle.drive.specs.Results.{checked, refused_with, refused_as, told_as, length_of}
+use Rattle.drive.specs.Results.{refused_with, refused_as, told_as, length_of}
 
--- by the check that passed
-is-sound : (d : Drive) {r : Result (Unit {0}) Refused} {u : Unit {0}} → r ≡ checked d → r ≡ Ok u → sound d.machine ≡ true
-unfolding checked
-is-sound d {r} {u} e q =
-    choose-by (λ (x : Result (Unit {0}) Refused). x ≡ Ok u → sound d.machine ≡ true) (sound d.machine) (λ t p. t) (λ f p. cc) (sym e ∙ q)
-
--- the refusal that a check ends with
-error-of : Refused → Result (Unit {0}) Refused → Refused
-error-of x (Ok u) = x
-error-of x (Err r) = r
-
--- by the check that failed
-is-unsound :
-    (d : Drive) {r : Result (Unit {0}) Refused} {x : Refused} → r ≡ checked d → r ≡ Err x →
-    (sound d.machine ≡ false) × (refused_with Unsound d ≡ x)
-unfolding checked refused_with error-of
-is-unsound d {r} {x} e q =
-    choose-by (λ (y : Result (Unit {0}) Refused). y ≡ Err x → (sound d.machine ≡ false) × (refused_with Unsound d ≡ x)) (sound d.machine)
-    (λ t p. cc) (λ f p. (f, ap (error-of x) p)) (sym e ∙ q)
-
--- "2, drive unsound"
+-- "2, drive unsound": by the check that failed
 pub unsound-applied :
-    (c : Call) (d : Drive) {r : Result (Unit {0}) Refused} {x : Refused} → r ≡ checked d → r ≡ Err x → refused_as x ≡ apply c d.machine
+    (c : Call) (d : Drive) {b : Bool} {x : Refused} → b ≡ sound d.machine → b ≡ false → x ≡ refused_with Unsound d → refused_as x ≡ apply c d.machine
 unfolding apply number_of refused_with refused_as
-unsound-applied c d e q =
-    let u = is-unsound d e q in
-    ap refused_as (sym u.1) ∙ sym (choose-false _ _ _ u.0)
+unsound-applied c d e f q = ap refused_as q ∙ sym (choose-false _ _ _ (sym e ∙ f))
 
--- what the operation gives on a sound drive
+-- by the check that passed, and what the operation gives on a sound drive
 pub sound-applied :
-    (c : Call) (d : Drive) {r : Result (Unit {0}) Refused} {u : Unit {0}} → r ≡ checked d → r ≡ Ok u → act c d.machine ≡ apply c d.machine
+    (c : Call) (d : Drive) {b : Bool} → b ≡ sound d.machine → b ≡ true → act c d.machine ≡ apply c d.machine
 unfolding apply
-sound-applied c d e q = sym (choose-true _ _ _ (is-sound d e q))
-
--- and that the drive is sound, which the operations ask
-pub check-passed : (d : Drive) {r : Result (Unit {0}) Refused} {u : Unit {0}} → r ≡ checked d → r ≡ Ok u → sound d.machine ≡ true
-check-passed d e q = is-sound d e q
+sound-applied c d e t = sym (choose-true _ _ _ (sym e ∙ t))
 
 -- the answer stands at the front of the buffer
 take-front : (a b : List ℕ) → take (length a) (a ++ b) ≡ a

@@ -22,10 +22,6 @@ use Rattle.drive.specs.declared.results.Waited.{Waited}
 unfoldable pub refused_with : Refusal → Drive → Refused
 refused_with r d = record { refusal = r; drive = d }
 
--- 01: "2, drive unsound", before all else
-unfoldable pub checked : Drive → Result (Unit {0}) Refused
-checked d = choose (sound d.machine) (Ok tt) (Err (refused_with Unsound d))
-
 -- what a refused call comes to
 unfoldable pub refused_as : Refused → Outcome
 refused_as r = refused (number_of r.refusal) r.drive.machine

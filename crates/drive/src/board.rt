@@ -9,14 +9,16 @@ use crate::Drive;
 use crate::results::{Refusal, Refused};
 use machine::answers::BoardOrder;
 use operations::board;
-use soundness::sound;
 
 impl Drive {
     // From the board: a step.
+    #[inline(never)]
     pub fn step(mut self) -> Result<Drive, Refused>
         ensures { done_as result ≡ apply Step self.machine }
     {
-        self.check()?;
+        if !self.is_sound() {
+            return Err(self.refused(Refusal::Unsound));
+        }
         match board::step(&self.machine) {
             Ok(state) => {
                 self.machine.state = state;
@@ -27,13 +29,16 @@ impl Drive {
     }
 
     // From the board: the run has reached its speed.
+    #[inline(never)]
     pub fn at_speed(mut self) -> Result<Drive, Refused>
         ensures { done_as result ≡ apply AtSpeed self.machine }
     {
-        self.check()?;
+        if !self.is_sound() {
+            return Err(self.refused(Refusal::Unsound));
+        }
         match board::at_speed(&self.machine) {
-            Ok(state) => {
-                self.machine.state = state;
+            Ok(marked) => {
+                self.machine.state = marked;
                 Ok(self)
             }
             Err(refusal) => Err(self.refused(refusal)),
@@ -41,13 +46,16 @@ impl Drive {
     }
 
     // From the board: the motor stands after slowing.
+    #[inline(never)]
     pub fn halted(mut self) -> Result<Drive, Refused>
         ensures { done_as result ≡ apply Halted self.machine }
     {
-        self.check()?;
+        if !self.is_sound() {
+            return Err(self.refused(Refusal::Unsound));
+        }
         match board::halted(&self.machine) {
-            Ok(state) => {
-                self.machine.state = state;
+            Ok(standing) => {
+                self.machine.state = standing;
                 Ok(self)
             }
             Err(refusal) => Err(self.refused(refusal)),
@@ -59,7 +67,7 @@ impl Drive {
     pub fn order(self) -> Result<BoardOrder, Refusal>
         ensures { ordered_as result ≡ ordered self.machine }
     {
-        if !sound(self.machine) {
+        if !self.is_sound() {
             return Err(Refusal::Unsound);
         }
         Ok(board::order(&self.machine))

@@ -55,7 +55,7 @@ fn fresh_machine(address: DriveAddress) -> Machine
 impl Drive {
     // A fresh drive. An address above 47 is refused; the drive beside that refusal has the address,
     // so it is unsound, and every operation refuses it.
-    #[tactic(auto, unfolding(crate::specs::Results::made_as, crate::specs::Results::machine_of, machine::specs::Operations::made, operations::specs::Results::number_of, laws::specs::Tests::choose))]
+    #[tactic(auto, unfolding(crate::specs::Results::made_as, crate::specs::Results::machine_of, crate::specs::Results::refused_with, machine::specs::Operations::made, operations::specs::Results::number_of, laws::specs::Tests::choose))]
     pub fn fresh(address: DriveAddress) -> Result<Drive, Refused>
         ensures result_value { made_as result ≡ made address.0 }
         ensures drive { machine_of result ≡ fresh_of address }
@@ -64,10 +64,7 @@ impl Drive {
             machine: fresh_machine(address),
         };
         if 47 < address.0 {
-            return Err(Refused {
-                refusal: Refusal::AddressAbove47,
-                drive,
-            });
+            return Err(drive.refused(Refusal::AddressAbove47));
         }
         Ok(drive)
     }

@@ -9,12 +9,12 @@ pub struct Refused {
     pub drive: Drive,
 }
 
-// After a string: how many bytes at the front of the buffer answer it, 0 for silence, and the next
-// drive.
+// After a string: the next drive, and how many bytes at the front of the buffer answer it, 0 for
+// silence. The drive stands first, so that it lies at the same place of a result as a refused one.
 #[derive(Clone, Copy)]
 pub struct Told {
-    pub length: usize,
     pub drive: Drive,
+    pub length: usize,
 }
 
 // After a wait: how it ended, and the next drive.

@@ -6,7 +6,7 @@ ghost use Rattle.machine.specs.Operations.{buffer_after};
 ghost use Rattle.drive.specs.Results.{done_as, told_as, length_of};
 
 use crate::Drive;
-use crate::results::{Refused, Told};
+use crate::results::{Refusal, Refused, Told};
 use operations::signals;
 
 impl Drive {
@@ -19,7 +19,9 @@ impl Drive {
         ensures buffer { buffer.new ≡
             buffer_after text.now buffer.old self.machine }
     {
-        self.check()?;
+        if !self.is_sound() {
+            return Err(self.refused(Refusal::Unsound));
+        }
         match signals::string(&mut self.machine, text, buffer) {
             Ok(length) => Ok(Told {
                 length,
@@ -30,10 +32,13 @@ impl Drive {
     }
 
     // An inputs word: bits 0 to 10 are I0, I1, I2, PX, S0 to S3, ST, ES, EE.
+    #[inline(never)]
     pub fn inputs(mut self, word: u16) -> Result<Drive, Refused>
         ensures { done_as result ≡ apply (SetInputs word) self.machine }
     {
-        self.check()?;
+        if !self.is_sound() {
+            return Err(self.refused(Refusal::Unsound));
+        }
         match signals::inputs(&self.machine, word) {
             Ok(state) => {
                 self.machine.state = state;

@@ -1,6 +1,8 @@
-// Why an image is refused.
+// Why an image is refused, and what stands beside it after reading.
 ghost use Rattle.std.specs.Prelude.{◌≡◌};
 ghost use Rattle.image.specs.Results.{number_of};
+
+use drive::Drive;
 
 // The refusals of 02, Slip 1, with that of an unsound drive.
 #[derive(Clone, Copy, Debug, PartialEq, Eq)]
@@ -22,4 +24,11 @@ impl Refusal {
             Refusal::NotAnImage => 10,
         }
     }
+}
+
+// A refused reading, and beside the refusal a drive that every operation refuses.
+#[derive(Clone, Copy)]
+pub struct Refused {
+    pub refusal: Refusal,
+    pub drive: Drive,
 }

@@ -16,7 +16,7 @@ const LONGEST: usize = 2048;
 const ROOM: usize = 4096;
 
 fn write_again(bytes: &[u8], buffer: &mut [u8]) -> Result<usize, Refusal> {
-    write(read(bytes)?, buffer)
+    write(read(bytes).map_err(|refused| refused.refusal)?, buffer)
 }
 
 fn main(rt: HostRuntime) -> io::Result<()> {

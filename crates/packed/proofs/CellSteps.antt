@@ -10,10 +10,8 @@ use lib.Seq.{length-sets}
 use Rattle.laws.specs.Writing.{Put}
 use Rattle.laws.proofs.Tests.{choose-by, choose-true, choose-false}
 use Rattle.std.specs.Prelude.{Option, Some, None}
-use Rattle.std.proofs.lemmas.Option.{same_Some}
-use Rattle.fields.specs.declared.kinds.Kind.{Kind}
 use Rattle.varint.specs.Groups.{groups, number_at, found}
-use Rattle.format.specs.Formats.{fields_of, format_of, known, signed_place, codes}
+use Rattle.format.specs.Formats.{fields_of, known, field_count, signed_place, codes}
 use Rattle.format.proofs.Entries.{formats-few}
 use Rattle.instruction.specs.Codes.{code_of}
 use Rattle.instruction.specs.Numbers.{numbers_of, cell_of, same_numbers}
@@ -23,7 +21,7 @@ use Rattle.packed.specs.Rows.{row_bytes, read_row}
 use Rattle.packed.specs.Layout.{laid, laid_read, Writable}
 use Rattle.packed.specs.Cells.{held, cell_bytes, cell_by, cell_after, cell_in}
 use Rattle.packed.specs.declared.rows.Row.{Row}
-use Rattle.packed.proofs.Outlines.{laid-row, laid-read, codes-agree}
+use Rattle.packed.proofs.Outlines.{laid-row, laid-read, codes-agree, known-count}
 
 -- ---- reading
 
@@ -36,40 +34,38 @@ pub after-known :
 unfolding cell_after
 after-known s code next k = choose-true _ _ None k
 
--- what the table of formats tells of a code: that there is none, or its fields
-pub told-unknown : (code : ℕ) → None ≡ format_of code → known code ≡ false
-unfolding format_of
-told-unknown code = choose-by (λ (o : Option (List Kind)). None ≡ o → known code ≡ false) (known code) (λ t e. absurd (cc)) (λ t e. t)
+-- a count above six is that of no code, one up to six that of a code
+many-unknown : (code : ℕ) → 6 < field_count code → known code ≡ false
+unfolding field_count
+many-unknown code =
+    choose-by (λ (n : ℕ). 6 < n → known code ≡ false) (known code) (λ t h. absurd (omega (arith, formats-few code))) (λ t h. t)
 
-pub told-known : (code : ℕ) (ks : List Kind) → Some ks ≡ format_of code → (known code ≡ true) × (ks ≡ fields_of code)
-unfolding format_of
-told-known code ks =
-    choose-by (λ (o : Option (List Kind)). Some ks ≡ o → (known code ≡ true) × (ks ≡ fields_of code)) (known code)
-    (λ t e. (t, same_Some ks (fields_of code) e)) (λ t e. absurd (cc))
+few-known : (code : ℕ) → field_count code ≤ 6 → known code ≡ true
+unfolding field_count
+few-known code = choose-by (λ (n : ℕ). n ≤ 6 → known code ≡ true) (known code) (λ t h. t) (λ t h. absurd (omega arith))
 
-pub told-few : (code : ℕ) (ks : List Kind) → Some ks ≡ format_of code → length ks ≤ 6
-told-few code ks f = omega (arith, formats-few code, ap length (told-known code ks f).1)
-
-pub cell-unknown : (s : List ℕ) (at code next : ℕ) → number_at s at ≡ found code next → None ≡ format_of code → cell_in codes s at ≡ None
+pub cell-unknown :
+    (s : List ℕ) (at code next : ℕ) {count : ℕ} → number_at s at ≡ found code next → count ≡ field_count code → 6 < count → cell_in codes s at ≡ None
 unfolding cell_in cell_after
-cell-unknown s at code next e f = ap (cell_after codes s) e ∙ choose-false _ _ None (told-unknown code f)
+cell-unknown s at code next e c h = ap (cell_after codes s) e ∙ choose-false _ _ None (many-unknown code (omega (arith, c)))
 
 -- the row of a code, read by its outline
 row_read :
-    (code : ℕ) (s : List ℕ) (from : ℕ) (ks : List Kind) {signed : ℕ} → ks ≡ fields_of code → signed ≡ signed_place (fields_of code) →
-    read_row (fields_of code) s from ≡ laid_read (length ks) signed s from
-row_read code s from ks {signed} c d =
-    laid-read (fields_of code) (signed_place (fields_of code)) s from (codes-agree code)
-    ∙ ap (λ (n : ℕ). laid_read n (signed_place (fields_of code)) s from) (sym (ap length c))
-    ∙ ap (λ (n : ℕ). laid_read (length ks) n s from) (sym d)
+    (code : ℕ) (s : List ℕ) (from : ℕ) {count signed : ℕ} → known code ≡ true → count ≡ field_count code → signed ≡ signed_place (fields_of code) →
+    read_row (fields_of code) s from ≡ laid_read count signed s from
+row_read code s from {count} {signed} k c d =
+    let ks = fields_of code in
+    laid-read ks (signed_place ks) s from (codes-agree code)
+    ∙ ap (λ (n : ℕ). laid_read n (signed_place ks) s from) (sym (c ∙ known-count code k))
+    ∙ ap (λ (n : ℕ). laid_read count n s from) (sym d)
 
 pub cell-known :
-    (s : List ℕ) (at code next : ℕ) (ks : List Kind) {signed : ℕ} {p : Option Row} → number_at s at ≡ found code next → Some ks ≡ format_of code →
-    signed ≡ signed_place (fields_of code) → p ≡ laid_read (length ks) signed s next → cell_in codes s at ≡ cell_by code p
+    (s : List ℕ) (at code next : ℕ) {count signed : ℕ} {p : Option Row} → number_at s at ≡ found code next → count ≡ field_count code → count ≤ 6 →
+    signed ≡ signed_place (fields_of code) → p ≡ laid_read count signed s next → cell_in codes s at ≡ cell_by code p
 unfolding cell_in
-cell-known s at code next ks e f d q =
-    let t = told-known code ks f in
-    ap (cell_after codes s) e ∙ after-known s code next t.0 ∙ ap (cell_by code) (row_read code s next ks t.1 d ∙ sym q)
+cell-known s at code next e c h d q =
+    let k : known code ≡ true = few-known code (omega (arith, c)) in
+    ap (cell_after codes s) e ∙ after-known s code next k ∙ ap (cell_by code) (row_read code s next k c d ∙ sym q)
 
 -- the row is wrong; its numbers are of no cell, or of one
 pub by-refused : (code : ℕ) {p : Option Row} → p ≡ None → cell_by code p ≡ None

@@ -1,6 +1,6 @@
 -- A row by its outline: how many numbers it has, and the place of the one with a sign. The code goes by these; the rows of kinds say the same.
 -- Assumes nothing.
-use Rattle.std.specs.Prelude.{ℕ, zero, suc, ◌+◌, ◌≤◌, List, [], ◌++◌, eqb, length, get_or, set, replicate, Option}
+use Rattle.std.specs.Prelude.{ℕ, zero, suc, ◌+◌, ◌≤◌, List, [], ◌++◌, eqb, length, get_or, set, replicate, Option, Some, None}
 use Rattle.laws.specs.Tests.{choose}
 use Rattle.varint.specs.Groups.{groups, number_at}
 use Rattle.varint.specs.Signs.{folded, unfolded}
@@ -23,6 +23,11 @@ laid_read_from (suc n) signed s at i vs =
 
 unfoldable pub laid_read : ℕ → ℕ → List ℕ → ℕ → Option Row
 laid_read count signed s from = laid_read_from count signed s from 0 (replicate 6 0)
+
+-- what reading into six places hands back, with the places afterwards
+unfoldable pub parsed_as : Option ℕ → List ℕ → Option Row
+parsed_as (Some next) vs = row vs next
+parsed_as None vs = None
 
 -- what writing a row into a buffer asks: at most six numbers, and room from the place on
 pub record Writable (count signed : ℕ) (vs : List ℕ) (from : ℕ) (buf : List ℕ) : Type 0 where

@@ -49,17 +49,19 @@ fn read_cell(s: &[u8], at: usize) -> Option<ReadCell>
     ensures { result ≡ cell_in codes s.now at }
 {
     let code = groups::read_number(s, at)?;
-    let kinds = format::format_of(code.value)?;
-    let signed = format::signed_place(code.value);
-    let row = rows::read_row(s, code.next, kinds.len(), signed)?;
-    let cell = numbers::cell_of(code.value, &row.values);
-    if !numbers::holds_numbers(code.value, &row.values) {
+    let count = format::field_count(code.value);
+    if 6 < count {
         return None;
     }
-    Some(ReadCell {
-        cell,
-        next: row.next,
-    })
+    let signed = format::signed_place(code.value);
+    // Lent to the row, since numbers written one by one are slow to copy at once.
+    let mut values = [0; 6];
+    let next = rows::read_row(s, code.next, count, signed, &mut values)?;
+    let cell = numbers::cell_of(code.value, &values);
+    if !numbers::holds_numbers(code.value, &values) {
+        return None;
+    }
+    Some(ReadCell { cell, next })
 }
 
 // Reads as many cells as there are places for, from a place on; hands back the place after them.

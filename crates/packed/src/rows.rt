@@ -1,12 +1,12 @@
 // Rows of numbers by their outline: how many there are, and the place of the one with a sign. One
-// loop writes them, another reads them.
+// loop writes them, another reads them into lent places.
 ghost use Rattle.std.specs.Prelude.{◌≡◌, ◌≤◌};
 ghost use Rattle.laws.specs.Writing.{Put};
-ghost use Rattle.packed.specs.Layout.{laid, laid_read, Writable};
+ghost use Rattle.packed.specs.Layout.{laid, laid_read, parsed_as, Writable};
 
 use varint::{groups, signs};
 
-// The numbers of a row, zeros after them, and the place after it.
+// The numbers of a row, zeros after them, and the place after it, as the definitions hold them.
 #[derive(Clone, Copy)]
 pub struct Row {
     pub values: [u32; 6],
@@ -31,12 +31,19 @@ pub fn put_row(buf: &mut [u8], from: usize, count: usize, signed: usize, values:
     at
 }
 
-// Reads the numbers of a row.
-pub fn read_row(s: &[u8], from: usize, count: usize, signed: usize) -> Option<Row>
+// Reads the numbers of a row into six places, zeros after them; hands back the place after them.
+// The places are lent, since numbers written one by one are slow to copy at once.
+pub fn read_row(
+    s: &[u8],
+    from: usize,
+    count: usize,
+    signed: usize,
+    values: &mut [u32; 6],
+) -> Option<usize>
     requires { count ≤ 6 }
-    ensures { result ≡ laid_read count signed s.now from }
+    ensures { parsed_as result values.new ≡ laid_read count signed s.now from }
 {
-    let mut values = [0u32; 6];
+    *values = [0; 6];
     let mut at = from;
     for (i, v) in values[..count].iter_mut().enumerate() {
         let read = groups::read_number(s, at)?;
@@ -47,5 +54,5 @@ pub fn read_row(s: &[u8], from: usize, count: usize, signed: usize) -> Option<Ro
         };
         at = read.next;
     }
-    Some(Row { values, next: at })
+    Some(at)
 }

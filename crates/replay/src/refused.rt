@@ -22,6 +22,12 @@ impl From<image::results::Refusal> for Number {
     }
 }
 
+impl From<image::results::Refused> for Number {
+    fn from(refused: image::results::Refused) -> Number {
+        Number(refused.refusal.number())
+    }
+}
+
 impl From<totals::results::Refusal> for Number {
     fn from(refusal: totals::results::Refusal) -> Number {
         Number(refusal.number())

@@ -1,26 +1,23 @@
 -- `Drive::step` meets its contract: by the check, and by the operation on a sound drive.
 -- Assumes nothing.
-use mathlib.Core.Path.{◌≡◌, ap, ◌∙◌}
-use Rattle.std.proofs.Common.{rules, Err}
+use mathlib.Core.Path.{sym, ap, ◌∙◌}
 use Rattle.machine.specs.Calls.Call.{Step}
 use Rattle.operations.specs.Results.{acted_on}
 use Rattle.drive.specs.Results.{refused_with, refused_as, done_as}
-use Rattle.drive.proofs.Applied.{check-passed, unsound-applied, sound-applied}
+use Rattle.drive.proofs.Applied.{unsound-applied, sound-applied}
 use Rattle.drive.proofs.Drive.step.Goals as goal
 
-pub returns-in_err-check : goal.returns-in_err-check
+pub returns-then-not-is_sound : goal.returns-then-not-is_sound
 unfolding done_as
-returns-in_err-check c =
-    let e : c.from_residual.result ≡ Err c.in_err-check.field-0.0 = search rules in
-    ap done_as e ∙ unsound-applied Step _ c.check.ensures c.in_err-check.was
+returns-then-not-is_sound c = unsound-applied Step _ c.is_sound.ensures c.if-not-is_sound.true c.refused.ensures
 
 pub step-requires : goal.step-requires
-step-requires c = check-passed _ c.check.ensures c.in_ok-check.was
+step-requires c = sym c.is_sound.ensures ∙ c.if-not-is_sound.false
 
 pub returns-in-Ok : goal.returns-in-Ok
 unfolding done_as acted_on
-returns-in-Ok c = c.in-Ok.ensures ∙ sound-applied Step _ c.check.ensures c.in_ok-check.was
+returns-in-Ok c = c.in-Ok.ensures ∙ sound-applied Step _ c.is_sound.ensures c.if-not-is_sound.false
 
 pub returns-in-Err : goal.returns-in-Err
 unfolding done_as acted_on refused_as refused_with
-returns-in-Err c = ap refused_as c.refused.ensures ∙ (c.in-Err.ensures ∙ sound-applied Step _ c.check.ensures c.in_ok-check.was)
+returns-in-Err c = ap refused_as c.refused-in-Err.ensures ∙ (c.in-Err.ensures ∙ sound-applied Step _ c.is_sound.ensures c.if-not-is_sound.false)

@@ -8,7 +8,7 @@ use lib.ListN.{length, drop, replicate, length-set, length-take}
 use Rattle.std.proofs.lemmas.List.{set-append_left, take-append-drop}
 use Rattle.laws.specs.Tests.{choose}
 use Rattle.varint.specs.Signs.{unfolded}
-use Rattle.packed.specs.Layout.{laid_read_from}
+use Rattle.packed.specs.Layout.{laid_read_from, parsed_as}
 use Rattle.packed.proofs.Turns.{turned, plain, read-start, read-refused, read_next, read-end}
 use Rattle.packed.proofs.rows.read_row.Goals as goal
 use Rattle.packed.proofs.rows.read_row.Goals.{then-i-signed, else-i-signed}
@@ -23,12 +23,13 @@ loop-i-init c =
     }
 
 pub returns-in_err-read : goal.returns-in_err-read
+unfolding parsed_as
 returns-in_err-read c =
     let l = c.loop-i in
     let a = c.args in
     let vs = l.v-items ++ drop a.count (replicate 6 0) in
-    c.from_residual.ensures
-    ∙ sym (l.invariant.left ∙ read-refused a.count a.signed a.s.now vs l.i l.at (omega (arith, l.invariant.many)) (sym c.in_err-read.ensures))
+    rw c.from_residual.ensures
+    (sym (l.invariant.left ∙ read-refused a.count a.signed a.s.now vs l.i l.at (omega (arith, l.invariant.many)) (sym c.in_err-read.ensures)))
 
 pub loop-i-preserved : goal.loop-i-preserved
 loop-i-preserved c =
@@ -50,6 +51,7 @@ loop-i-preserved c =
     }
 
 pub returns : goal.returns
+unfolding parsed_as
 returns c =
     let l = c.loop-i in
     let a = c.args in

@@ -1,25 +1,25 @@
 -- `follow` meets its contract: each way through a turn is a way through the definition's.
 -- Assumes nothing.
-use Rattle.std.proofs.Common.{ℕ, ◌<◌, subst, sym, ◌∙◌}
+use Rattle.std.proofs.Common.{ℕ, ◌<◌, subst, ◌∙◌}
 use mir.Facts.{to_z-of_z}
 use Rattle.cellmap.specs.Marks.{marked, unmarked}
 use Rattle.totals.proofs.Turning.{under-ended, under-place, under-again, under_other, under_on, under-linked, under-room, under-passed}
 use Rattle.totals.proofs.walk.+follow.Goals as goal
 
-pub returns-then-at-eq0 : goal.returns-then-at-eq0
-returns-then-at-eq0 t c = under-ended c.args.cells.now c.requires.linked c.requires.room c.if-at-eq0.true
+pub returns-then-at-eq0-clause-sums_after : goal.returns-then-at-eq0-clause-sums_after
+returns-then-at-eq0-clause-sums_after t c = under-ended c.args.cells.now c.requires.linked c.requires.room c.if-at-eq0.true
 
 pub bounds-met-place : goal.bounds-met-place
 bounds-met-place t c = under-place c.args.cells.now c.requires.linked c.requires.room c.place-place.ensures c.if-at-eq0.false
 
-pub returns-then-met-place : goal.returns-then-met-place
-returns-then-met-place t c = under-again c.args.cells.now c.requires.linked c.requires.room c.place-place.ensures c.if-at-eq0.false c.if-met-place.true
+pub returns-then-met-place-clause-sums_after : goal.returns-then-met-place-clause-sums_after
+returns-then-met-place-clause-sums_after t c = under-again c.args.cells.now c.requires.linked c.requires.room c.place-place.ensures c.if-at-eq0.false c.if-met-place.true
 
 pub bounds-cells-place : goal.bounds-cells-place
 bounds-cells-place t c = under-place c.args.cells.now c.requires.linked c.requires.room c.place-place.ensures c.if-at-eq0.false
 
-pub returns-in_default : goal.returns-in_default
-returns-in_default t c = under_other c.args.cells.now c.requires.linked c.requires.room c.place-place.ensures c.if-at-eq0.false c.if-met-place.false c.adds.ensures c.in_default.is
+pub returns-in_default-clause-sums_after : goal.returns-in_default-clause-sums_after
+returns-in_default-clause-sums_after t c = under_other c.args.cells.now c.requires.linked c.requires.room c.place-place.ensures c.if-at-eq0.false c.if-met-place.false c.adds.ensures c.in_default.is
 
 pub bounds-met-place-2 : goal.bounds-met-place-2
 bounds-met-place-2 t c = under-place c.args.cells.now c.requires.linked c.requires.room c.place-place.ensures c.if-at-eq0.false
@@ -41,5 +41,5 @@ follow-requires t c =
       (c.requires.cells_value, (under-linked c.args.cells.now c.requires.linked c.requires.room c.place-place.ensures c.if-at-eq0.false c.requires.cells_value c.if-met-place.false c.adds.ensures c.in-Some.is, under-room c.args.cells.now c.requires.linked c.requires.room c.place-place.ensures c.if-at-eq0.false c.requires.cells_value c.if-met-place.false c.adds.ensures c.in-Some.is)),
     )
 
-pub returns : goal.returns
-returns t c = c.follow.ensures ∙ under-passed c.args.cells.now c.requires.linked c.requires.room c.place-place.ensures c.if-at-eq0.false c.requires.cells_value c.if-met-place.false c.adds.ensures c.in-Some.is
+pub returns-clause-sums_after : goal.returns-clause-sums_after
+returns-clause-sums_after t c = c.follow.ensures.sums_after ∙ under-passed c.args.cells.now c.requires.linked c.requires.room c.place-place.ensures c.if-at-eq0.false c.requires.cells_value c.if-met-place.false c.adds.ensures c.in-Some.is

@@ -13,6 +13,14 @@ follow-requires-clause-linked c = cell-next c.args.start c.requires.start_value
 pub follow-requires-clause-room : goal.follow-requires-clause-room
 follow-requires-clause-room c = room-first
 
-pub returns : goal.returns
+pub returns-in-Whole : goal.returns-in-Whole
 unfolding totals_in
-returns c = c.follow.ensures ∙ sym (choose-true _ _ _ c.requires.start_value)
+returns-in-Whole c = c.in-Whole.ensures.sums_after ∙ sym (choose-true _ _ _ c.requires.start_value)
+
+pub returns-in-MetTwice : goal.returns-in-MetTwice
+unfolding totals_in
+returns-in-MetTwice c = c.in-MetTwice.ensures.sums_after ∙ sym (choose-true _ _ _ c.requires.start_value)
+
+pub returns-in-OtherCode : goal.returns-in-OtherCode
+unfolding totals_in
+returns-in-OtherCode c = c.in-OtherCode.ensures.sums_after ∙ sym (choose-true _ _ _ c.requires.start_value)
